@@ -1,0 +1,1 @@
+// The meaning of rules as trees: the crate is its specs.
