@@ -10,5 +10,5 @@ pub mod PartsLaws
 pub mod SizeLaws
 pub mod Room
 pub mod RoomLaws
-pub mod Predicate
+pub mod Rules
 pub mod Trials

@@ -54,12 +54,12 @@ module _ {Q : Type 0} where
 -- ---- the subexpressions of the same rules
 
 module _ {A B : Type 0} (g : A → List B) {P : B → Type 0} where
-  all-flatMap : {l : List A} → All (λ x. All P (g x)) l → All P (flatMap g l)
+  pub all-flatMap : {l : List A} → All (λ x. All P (g x)) l → All P (flatMap g l)
   unfolding flatMap
   all-flatMap none = none
   all-flatMap (both h k) = all-append h (all-flatMap k)
 
-  any-flatMap : (l : List A) → Any (λ x. Any P (g x)) l → Any P (flatMap g l)
+  pub any-flatMap : (l : List A) → Any (λ x. Any P (g x)) l → Any P (flatMap g l)
   unfolding flatMap
   any-flatMap [] a = absurd (no-any a)
   any-flatMap (x ∷ l) (here a) = any-left (flatMap g l) a

@@ -8,11 +8,13 @@ use Rattle.evaluation.specs.declared.Operator.{Operator}
 use Rattle.evaluation.specs.declared.Operator.the-variants.{And, Or}
 use Rattle.lists.specs.Places.{sum}
 use Rattle.lists.specs.Counting.{dedup}
+use Rattle.predicates.specs.Kinds.{kindOf, numbered, kinds}
+use Rattle.predicates.specs.Predicate.{Predicate, predicate?}
 use Rattle.ast.specs.Trees.{Join, Not, Value, Flat, leaf, node, trees}
 use Rattle.ast.specs.Flattening.{optimize}
 use Rattle.ast.specs.SameLaws.{same?}
 use Rattle.ast.specs.Parts.{level}
-use Rattle.ast.specs.Predicate.{Predicate, predicate?, ruleCost, roomOf}
+use Rattle.ast.specs.Rules.{ruleCost, roomOf}
 
 -- the letters of the paper, each the number of an attribute
 abbrev a : ℕ
@@ -59,11 +61,11 @@ unfolding flatMap dedup same? predicate? sum
 P2 = (refl, refl)
 
 pub P3 : ruleCost (both And (inside a (pos 1 ∷ pos 2 ∷ pos 3 ∷ [])) (is b)) ≡ 53
-unfolding sum
+unfolding sum kindOf numbered kinds
 P3 = refl
 
 pub P4 : ruleCost (both Or (oneOf a (pos 1 ∷ pos 2 ∷ pos 3 ∷ pos 4 ∷ [])) (is b)) ≡ 68
-unfolding sum
+unfolding sum kindOf numbered kinds
 P4 = refl
 
 pub P12 : roomOf (both And (is a) (is a) ∷ []) ≡ record { rules = 1; parts = 2; places = 2; elements = 0 }

@@ -9,7 +9,8 @@ use native.Mathlib.Numerals.{add-one}
 use native.Mathlib.Omega.{arith}
 use lib.ListN.{length, getD, set, take, drop, length-drop}
 use lib.Seq.{sets, sets-eq, paste, paste-suc, take-all, length-take-le}
-use Rattle.attributes.specs.Table.{nameLimit, recordAt, isBetween, countOf, lengthAt, nameAt, sameBytes, named}
+use Rattle.bytes_equal.specs.Bytes.{sameBytes}
+use Rattle.attributes.specs.Table.{nameLimit, recordAt, isBetween, countOf, lengthAt, nameAt, named}
 use Rattle.attributes.specs.TableLaws.{between}
 use Rattle.attributes.specs.Definitions.{padded, added}
 use Rattle.attributes.specs.AddedLaws.{padded-at, padded-length}

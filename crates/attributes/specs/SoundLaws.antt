@@ -15,11 +15,12 @@ use borrow.Author.Tests.{eqb-true, eq-eqb, leb-true, le-leb}
 use lib.ListN.{length}
 use Rattle.lists.specs.AndLaws.{and-left, and-right, and-both}
 use Rattle.lists.specs.BelowLaws.{below-each, below-all}
+use Rattle.bytes_equal.specs.BytesLaws.{bytes-same, bytes-differ}
 use Rattle.attributes.specs.declared.AttributeId.{AttributeId}
 use Rattle.attributes.specs.declared.Found.the-variants.{At, Nothing}
 use Rattle.attributes.specs.Kinds.{kindCount}
 use Rattle.attributes.specs.Table.{nameLimit, tableSize, countOf, kindAt, lengthAt, nameAt, named, firstBelow, byName, nowhere}
-use Rattle.attributes.specs.TableLaws.{between, is-between, bytes-same, bytes-differ, nowhere-nothing}
+use Rattle.attributes.specs.TableLaws.{between, is-between, nowhere-nothing}
 use Rattle.attributes.specs.TableLaws.{first-nothing, first-fails, first-here, name-whole, by-name-named, by-name-none}
 use Rattle.attributes.specs.Sound.{Sound, soundAttribute, soundTable}
 

@@ -4,10 +4,10 @@
 use mathlib.Core.Bool.{Bool, true, false, cond}
 use mathlib.Core.List.{List}
 use Prim.Native.Nat.{ℕ, zero, suc, _+_, _*_}
-use lib.Dec.{eqb, leb}
-use lib.ListN.{length, getD, take, drop}
+use lib.Dec.{leb}
+use lib.ListN.{getD, take, drop}
 use Rattle.lists.specs.And.{_and_}
-use Rattle.lists.specs.Below.{allBelow}
+use Rattle.bytes_equal.specs.Bytes.{sameBytes}
 use Rattle.attributes.specs.declared.Found.{Found}
 use Rattle.attributes.specs.declared.Found.the-variants.{At, Nothing}
 
@@ -48,13 +48,6 @@ abbrev pub nameAt : List ℕ → ℕ → List ℕ
 nameAt t i = take (lengthAt t i) (drop (recordAt i + 2) t)
 
 -- ---- finding an attribute by its name
-
-abbrev pub sameAt : List ℕ → List ℕ → ℕ → Bool
-sameAt m n k = eqb (getD m k 0) (getD n k 0)
-
--- as many bytes, and each the same
-unfoldable pub sameBytes : List ℕ → List ℕ → Bool
-sameBytes m n = eqb (length m) (length n) and allBelow (sameAt m n) (length m)
 
 -- attribute i has this name
 abbrev pub named : List ℕ → List ℕ → ℕ → Bool

@@ -1,28 +1,27 @@
 -- Laws of tables, sound or not.
 --     between, is-between                            a number from low to high
---     same-bytes, bytes-same, bytes-differ           the test that two lists of bytes are the same holds exactly where they are
 --     first-none, first-more, first-here             the first number that passes a test, as a loop seeks it
 --     first-passes, first-nothing, first-fails       and as a reader uses it
 --     name-whole                                     how long a name is
 --     by-name-named, by-name-nothing, by-name-none   what is found has the name, and nothing is found exactly where nothing has it
 -- Assumes nothing.
-use mathlib.Core.Path.{_≡_, refl, sym, ap, _∙_}
+use mathlib.Core.Path.{_≡_, refl, sym, _∙_}
 use mathlib.Core.Bool.{Bool, true, false, cond, true≢false}
 use mathlib.Core.List.{List}
 use Prim.Native.Nat.{ℕ, zero, suc, _+_, _≤_, _<_}
 use native.Mathlib.Numerals.{add-one}
 use native.Mathlib.Decide.{ℕ-discrete}
 use native.Mathlib.Omega.{arith}
-use borrow.Author.Tests.{eqb-true, eq-eqb, leb-true, le-leb}
-use lib.ListN.{length, getD, drop, length-drop}
-use lib.Seq.{ext-getD, length-take-le}
+use borrow.Author.Tests.{leb-true, le-leb}
+use lib.ListN.{length, drop, length-drop}
+use lib.Seq.{length-take-le}
 use Rattle.lists.specs.AndLaws.{and-left, and-right, and-both}
-use Rattle.lists.specs.BelowLaws.{below-each, below-all}
+use Rattle.bytes_equal.specs.BytesLaws.{same-bytes, bytes-same, bytes-differ}
 use Rattle.attributes.specs.declared.AttributeId.{AttributeId}
 use Rattle.attributes.specs.declared.Found.{Found}
 use Rattle.attributes.specs.declared.Found.the-variants.{At, Nothing}
 use Rattle.attributes.specs.Table.{recordAt, isBetween, countOf, lengthAt, nameAt}
-use Rattle.attributes.specs.Table.{sameAt, sameBytes, named, orElse, firstBelow, byName, nowhere}
+use Rattle.attributes.specs.Table.{named, orElse, firstBelow, byName, nowhere}
 
 -- ---- a number from low to high
 
@@ -34,28 +33,6 @@ module _ (low n high : ℕ) where
   pub is-between : (low ≤ n) × (n ≤ high) → isBetween low n high ≡ true
   unfolding isBetween
   is-between h = and-both _ _ (le-leb _ _ (h .0)) (le-leb _ _ (h .1))
-
--- ---- the same bytes
-
-module _ (m n : List ℕ) where
-  pub same-bytes : sameBytes m n ≡ true → m ≡ n
-  unfolding sameBytes
-  same-bytes h =
-      ext-getD 0 m n (eqb-true _ _ (and-left _ _ h))
-      (λ k l. eqb-true _ _ (below-each (sameAt m n) (length m) (and-right _ _ h) k l))
-
-  pub bytes-same : m ≡ n → sameBytes m n ≡ true
-  unfolding sameBytes
-  bytes-same e =
-      and-both _ _ (eq-eqb _ _ (ap length e))
-      (below-all (sameAt m n) (length m) (λ k l. eq-eqb _ _ (ap (λ (b : List ℕ). getD b k 0) e)))
-
-  pub bytes-differ : (m ≡ n → ⊥) → sameBytes m n ≡ false
-  bytes-differ f = go (sameBytes m n) refl
-    where
-      go : (b : Bool) → sameBytes m n ≡ b → b ≡ false
-      go true h = absurd (f (same-bytes h))
-      go false h = refl
 
 -- ---- the first attribute that passes a test
 

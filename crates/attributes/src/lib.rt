@@ -6,7 +6,7 @@ ghost use lib.ListN.{length, getD};
 ghost use lib.Seq.{sets};
 ghost use Rattle.attributes.specs.Kinds.{kindNumber};
 ghost use Rattle.attributes.specs.Table.{attributeLimit, nameLimit, tableSize, recordAt};
-ghost use Rattle.attributes.specs.Table.{isBetween, countOf, kindAt, lengthAt, nameAt, sameBytes, named, firstBelow, byName};
+ghost use Rattle.attributes.specs.Table.{isBetween, countOf, kindAt, lengthAt, nameAt, named, firstBelow, byName};
 ghost use Rattle.attributes.specs.Definitions.{padded, added, outcome, definedOf};
 ghost use Rattle.attributes.specs.Sound.{soundAttribute, soundTable};
 
@@ -71,7 +71,7 @@ fn wide(byte: u8) -> usize
 }
 
 // Does the number lie from low to high?
-fn between(low: usize, number: usize, high: usize) -> bool
+pub fn between(low: usize, number: usize, high: usize) -> bool
     ensures { λ r. ⌜ r ≡ isBetween low number high ⌝ }
 {
     if number < low {
@@ -129,24 +129,6 @@ fn name_of(table: &[u8], i: usize) -> &[u8]
     &table[start..end]
 }
 
-// Are they the same bytes?
-fn same_bytes(left: &[u8], right: &[u8]) -> bool
-    ensures { λ r. ⌜ r ≡ sameBytes (now (left .entry)) (now (right .entry)) ⌝ }
-{
-    let n = left.len();
-    if n != right.len() {
-        return false;
-    }
-    let mut k = 0;
-    while k < n {
-        if left[k] != right[k] {
-            return false;
-        }
-        k += 1;
-    }
-    true
-}
-
 // The first attribute below `count` that has this name.
 fn first_named(table: &[u8], name: &[u8], count: usize) -> Found
     requires { ⌜ (length (now table) ≡ tableSize) × (count ≤ attributeLimit) ⌝ }
@@ -154,7 +136,7 @@ fn first_named(table: &[u8], name: &[u8], count: usize) -> Found
 {
     let mut i = 0;
     while i < count {
-        if same_bytes(name_of(table, i), name) {
+        if bytes_equal::same_bytes(name_of(table, i), name) {
             return Found::At(AttributeId(i));
         }
         i += 1;

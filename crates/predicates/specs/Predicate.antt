@@ -1,18 +1,14 @@
--- The predicate as a book keeps it, by the numbers of the rule sheet, and over it the cost of a rule and the room counts.
+-- The predicate as a book keeps it, by the numbers of the rule sheet.
 -- A decimal is kept in its normal form, so two decimals equal by value are equal numbers, and predicates are the same where they are equal.
 -- Assumes nothing.
 use mathlib.Core.Path.{_≡_, ap, sym}
-use mathlib.Core.Bool.{cond, _&&_}
 use mathlib.Core.List.{List, _∷_}
-use Prim.Native.Nat.{ℕ, _*_}
+use Prim.Native.Nat.{ℕ}
 use native.Mathlib.Decide.{ℕ-discrete}
-use lib.Dec.{leb}
 use lib.ListN.{length}
 use lib.IntN.{ℤ, pos, negsuc, pos-ne-negsuc}
 use Rattle.lists.specs.Places.{list?}
-use Rattle.ast.specs.Trees.{Flat}
-use Rattle.ast.specs.Parts.{cost}
-use Rattle.ast.specs.Room.{Counts, countsOf}
+use Rattle.predicates.specs.Kinds.{kindOf, costOf}
 
 -- The literal is the number of an integer, a word or a decimal, the decimal's scale and the list's elements.
 -- What its tag does not use is 0 or empty.
@@ -27,12 +23,8 @@ pub record Predicate : Type 0 where
 abbrev pub listLength : Predicate → ℕ
 listLength p = length (p .elements)
 
--- what an element of the list costs: 1 in the set kinds, 2 in the list kinds; no other kind has a cost
-abbrev pub elementCost : ℕ → ℕ
-elementCost kind = cond (leb 20 kind && leb kind 21) 1 (cond (leb 50 kind && leb kind 53) 2 0)
-
 abbrev pub predicateCost : Predicate → ℕ
-predicateCost p = elementCost (p .kind) * listLength p
+predicateCost p = costOf (kindOf (p .kind)) (listLength p)
 
 -- ---- equality is decided
 
@@ -65,11 +57,3 @@ determined p q e =
 unfoldable pub predicate? : (p q : Predicate) → Dec (p ≡ q)
 unfolding list? integer? decided determined
 predicate? p q = decided (determined p q) (ap numbersOf) (list? integer? (numbersOf p) (numbersOf q))
-
--- ---- over these predicates
-
-abbrev pub ruleCost : Flat Predicate → ℕ
-ruleCost = cost predicateCost
-
-abbrev pub roomOf : List (Flat Predicate) → Counts
-roomOf = countsOf predicate? listLength

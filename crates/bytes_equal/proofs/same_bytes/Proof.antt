@@ -1,4 +1,4 @@
--- `attributes::same_bytes` meets its contract. The invariant: each byte passed is the same in both. Assumes nothing.
+-- `bytes_equal::same_bytes` meets its contract. The invariant: each byte passed is the same in both. Assumes nothing.
 use mathlib.Core.Path.{_≡_, sym}
 use mathlib.Core.Bool.{true}
 use Prim.Native.Nat.{_-_, _≤_}
@@ -9,9 +9,9 @@ use lib.ListN.{length}
 use Rattle.lists.specs.AndLaws.{and-first, and-second, and-both}
 use Rattle.lists.specs.Below.{allBelow}
 use Rattle.lists.specs.BelowLaws.{below-none, below-more, below-broken}
-use Rattle.attributes.specs.Table.{sameAt, sameBytes}
-use Rattle.attributes.proofs.same_bytes.Statement.{statement}
-use Rattle.attributes.proofs.same_bytes.Tie as tie
+use Rattle.bytes_equal.specs.Bytes.{sameAt, sameBytes}
+use Rattle.bytes_equal.proofs.same_bytes.Statement.{statement}
+use Rattle.bytes_equal.proofs.same_bytes.Tie as tie
 
 abbrev Inv-loop : tie.InvT-loop
 Inv-loop left right n k₀ k = (k ≤ n) × (n ≡ length left) × (n ≡ length right) × (allBelow (sameAt left right) k ≡ true)

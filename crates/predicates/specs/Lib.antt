@@ -1,0 +1,11 @@
+pub mod Kinds
+pub mod EachKind
+pub mod KindsLaws
+pub mod Suits
+pub mod SuitsLaws
+pub mod Predicate
+pub mod Integers
+pub mod IntegersLaws
+pub mod Meaning
+pub mod MeaningLaws
+pub mod Trials
