@@ -1,0 +1,24 @@
+-- The definitions that the contracts cite, in the order to read them, and laws about them.
+pub mod Entries
+pub mod Table
+pub mod Spells
+pub mod Bodies
+pub mod WellFormed
+pub mod Form
+pub mod Reading
+pub mod RangeLaws
+pub mod TableLaws
+pub mod SpellsLaws
+pub mod BodiesLaws
+pub mod OwedLaws
+pub mod ListFitsLaws
+pub mod FormLaws
+pub mod AnswersLaws
+pub mod ReadingLaws
+pub mod Encoding
+pub mod WrittenLaws
+pub mod EncodingLaws
+pub mod Suiting
+pub mod SuitingLaws
+pub mod AcceptedLaws
+pub mod SheetTrials
