@@ -1,0 +1,9 @@
+pub mod PlacingLaws
+pub mod MovingLaws
+pub mod WritingLaws
+pub mod AppendedLaws
+pub mod JoinLaws
+pub mod PredicateLaws
+pub mod TablesLaws
+pub mod RulesLaws
+pub mod OrderLaws

@@ -1,0 +1,4 @@
+pub mod Placing
+pub mod Moving
+pub mod Changes
+pub mod Effects

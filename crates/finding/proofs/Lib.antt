@@ -1,0 +1,3 @@
+pub mod HeadLaws
+pub mod ItemLaws
+pub mod MarkLaws

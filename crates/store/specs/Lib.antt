@@ -1,0 +1,5 @@
+pub mod Heads
+pub mod Layout
+pub mod Records
+pub mod Tables
+pub mod Runs
