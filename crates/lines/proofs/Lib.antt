@@ -1,0 +1,4 @@
+mod FirstLaws
+mod PartLaws
+mod SignLaws
+mod WritingLaws
