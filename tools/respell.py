@@ -18,7 +18,7 @@ DECLARED = re.compile(r"^\s*(?:(?:abbrev|unfoldable|pub)\s+)*(" + WORD + r")\s*:
 CONSTRUCTOR = re.compile(r"^\s*(" + WORD + r")\s+:\s")
 USE = re.compile(r"^\s*(?:pub\s+|ghost\s+)*use\s+([^;]*)")
 # words that the library respelled, and that stand in names of the repository's own
-WITHIN = [("getD", "get_or"), ("ltZ", "lt_z"), ("flatMap", "flat_map"), ("ofList", "of_list")]
+WITHIN = [("getD", "get_or"), ("get_d", "get_or"), ("ltZ", "lt_z"), ("flatMap", "flat_map"), ("ofList", "of_list")]
 
 
 def snake(name):
@@ -32,7 +32,7 @@ def snake(name):
 
 def is_word(name):
     """A name of the lower kind that isn't in snake case yet."""
-    return bool(name[0].islower() and (re.search(r"-|[a-z0-9][A-Z]", name)) or re.match(r"[A-Z]\d+-", name))
+    return bool(name[0].islower() and re.search(r"-|[a-z0-9][A-Z]|(^|_)get_d(_|$)", name) or re.match(r"[A-Z]\d+-", name))
 
 
 def declared(path):

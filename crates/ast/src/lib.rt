@@ -1,1 +1,3 @@
 // The meaning of rules as trees: the crate is its specs.
+#![tactic(auto)]
+

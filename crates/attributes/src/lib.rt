@@ -1,5 +1,7 @@
 // The attribute table: what AttributeTable, AttributeId, AttributeKind and AttributeDefinition of events.rs are in the Rust. The table is a
 // part of a book's bytes, lent as a slice; specs/Table.antt says how it is laid out.
+#![tactic(auto)]
+
 ghost use Rattle.std.specs.Prelude.{◌≡◌, ◌+◌, ◌≤◌, ◌<◌, length, get_or};
 ghost use Rattle.std.proofs.lemmas.List.Edits.{sets};
 ghost use Rattle.attributes.specs.Kinds.{kind_number};
@@ -23,10 +25,10 @@ pub const TABLE_SIZE: usize = 1 + RECORD_SIZE * ATTRIBUTE_LIMIT;
 pub const KIND_COUNT: usize = 6;
 
 // An attribute by its number in the table. A type of its own, so that no word number can stand for it.
-#[derive(Drop)]
+#[derive(Clone, Copy)]
 pub struct AttributeId(pub usize);
 
-#[derive(Drop)]
+#[derive(Clone, Copy)]
 pub enum AttributeKind {
     Boolean,
     Integer,
@@ -37,7 +39,7 @@ pub enum AttributeKind {
 }
 
 // One attribute to be defined: a name, of which the first `length` bytes count, and a kind.
-#[derive(Drop)]
+#[derive(Clone, Copy)]
 pub struct Definition {
     pub name: [u8; NAME_LIMIT],
     pub length: usize,
@@ -45,7 +47,7 @@ pub struct Definition {
 }
 
 // What looking for a name gives.
-#[derive(Drop)]
+#[derive(Clone, Copy)]
 pub enum Found {
     At(AttributeId),
     Nothing,

@@ -1,4 +1,6 @@
 // Whether two slices hold the same bytes: for names in the attribute table, and for words of a line.
+#![tactic(auto)]
+
 ghost use Rattle.std.specs.Prelude.{◌≡◌};
 ghost use Rattle.bytes_equal.specs.Bytes.{same_bytes};
 

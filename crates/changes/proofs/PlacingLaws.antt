@@ -8,7 +8,7 @@ use native.Mathlib.Omega.{arith}
 use lib.ListN.{length, get_or, take, drop, length-append, length-drop, get_or-append}
 use lib.Seq.{get_or_at, ext_get_or, length-take-le, get_or-take, get_or-drop, get_or-append-add}
 use Rattle.lists.specs.Tabulate.{tabulate}
-use Rattle.lists.specs.TabulateLaws.{length_tabulate, get_d_tabulate}
+use Rattle.lists.specs.TabulateLaws.{length_tabulate, get_or_tabulate}
 use Rattle.changes.specs.Placing.{inserted_at}
 
 module _ {A : Type 0} (n : ℕ) (f g : ℕ → A) (k : ℕ) (x : A) (fits : k ≤ n)
@@ -35,7 +35,7 @@ module _ {A : Type 0} (n : ℕ) (f g : ℕ → A) (k : ℕ) (x : A) (fits : k �
           | yes u ↦ before i u
               ∙ sym
               (get_or-append (take k old) (x ∷ drop k old) x i (omega (arith, front)) ∙ get_or-take k old i x u
-              ∙ get_d_tabulate n f x i (omega arith))
+              ∙ get_or_tabulate n f x i (omega arith))
           | no v ↦
               let j = i - suc k in
               let e : length (take k old) + suc j ≡ i = omega (arith, front, ne, v) in
@@ -45,7 +45,7 @@ module _ {A : Type 0} (n : ℕ) (f g : ℕ → A) (k : ℕ) (x : A) (fits : k �
               (ap (λ (m : ℕ). get_or (inserted_at k x old) m x) (sym e)
               ∙ get_or-append-add (take k old) (x ∷ drop k old) (suc j) x
               ∙ get_or-drop k old j x
-              ∙ get_d_tabulate n f x (k + j) (omega arith))
+              ∙ get_or_tabulate n f x (k + j) (omega arith))
         ]
       ]
 
@@ -55,4 +55,4 @@ module _ {A : Type 0} (n : ℕ) (f g : ℕ → A) (k : ℕ) (x : A) (fits : k �
       ext_get_or x (tabulate (suc n) g) (inserted_at k x (tabulate n f)) (length_tabulate (suc n) g ∙ sym whole)
       (λ i l.
       let u : i < suc n = rw (length_tabulate (suc n) g) at l in
-      get_d_tabulate (suc n) g x i u ∙ each i u)
+      get_or_tabulate (suc n) g x i u ∙ each i u)

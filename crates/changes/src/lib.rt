@@ -1,5 +1,7 @@
 // Changes of a book's bytes: a part appended, a rule put in and taken away, roots renumbered, an entry put into the order table.
 // specs/Changes.antt gives the bytes that each leaves, specs/Effects.antt what that does to the book.
+#![tactic(auto)]
+
 ghost use Rattle.std.specs.Prelude.{◌≡◌, ◌+◌, ◌<◌, ◌≤◌, length};
 ghost use Rattle.store.specs.Layout.{Laid};
 ghost use Rattle.store.specs.Records.{rule_count};

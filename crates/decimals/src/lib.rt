@@ -1,4 +1,6 @@
 // Decimals: a number x and a scale y stand for x over 10 to the y. They are compared exactly, in 64 bits, and have a normal form.
+#![tactic(auto)]
+
 ghost use Rattle.std.specs.Prelude.{◌≡◌, ◌^◌, ◌≤◌, pos, ◌*ℤ◌};
 ghost use Rattle.decimals.specs.Order.{order_z, turned_of, then_of};
 ghost use Rattle.decimals.specs.Decimals.{scale_limit, compare_of};
@@ -9,13 +11,13 @@ mod powers;
 // The greatest scale that a decimal has in a rule or an event.
 pub const SCALE_LIMIT: u8 = 28;
 
-#[derive(Drop)]
+#[derive(Clone, Copy)]
 pub struct Decimal {
     pub number: i64,
     pub scale: u8,
 }
 
-#[derive(Drop)]
+#[derive(Clone, Copy)]
 pub enum Order {
     Less,
     Equal,

@@ -1,5 +1,7 @@
 // The numbers that a call can answer, by name: what error.rs is in the Rust. Each number stands here and nowhere else in the code;
 // specs/Answers.antt says when each is given.
+#![tactic(auto)]
+
 pub const DONE: u8 = 0;
 
 pub const SHEET_MALFORMED: u8 = 1;

@@ -1,24 +1,26 @@
 // Three answers, Kleene's two tables and their combining step, and the result bytes of a search. Assumes nothing.
+#![tactic(auto)]
+
 ghost use Rattle.std.specs.Prelude.{◌≡◌, ◌<◌, length, get_or, set};
 ghost use Rattle.evaluation.specs.Kleene.{not_of, join_of, unit_of, decider_of};
 ghost use Rattle.evaluation.specs.Table.{number_of, table_of, at_table};
 ghost use Rattle.evaluation.specs.Results.{answer_bits, result_byte, evaluated, outcome_of};
 
-#[derive(Drop)]
+#[derive(Clone, Copy)]
 pub enum Truth {
     False,
     Undefined,
     True,
 }
 
-#[derive(Drop)]
+#[derive(Clone, Copy)]
 pub enum Operator {
     And,
     Or,
 }
 
 // What a search knows of a part: a part never valued has no answer.
-#[derive(Drop)]
+#[derive(Clone, Copy)]
 pub enum Outcome {
     Unvalued,
     Valued(Truth),

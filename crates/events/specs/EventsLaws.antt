@@ -61,10 +61,10 @@ module _ (lists : List ℤ) (i : ℕ) (row : List ℤ) (size : length row ≡ li
 
 -- ---- a fresh event
 
-get_d_replicate : (n : ℕ) (k i : ℕ) → get_or (replicate n k) i k ≡ k
-get_d_replicate zero k i = refl
-get_d_replicate (suc n) k zero = refl
-get_d_replicate (suc n) k (suc i) = get_d_replicate n k i
+get_or_replicate : (n : ℕ) (k i : ℕ) → get_or (replicate n k) i k ≡ k
+get_or_replicate zero k i = refl
+get_or_replicate (suc n) k zero = refl
+get_or_replicate (suc n) k (suc i) = get_or_replicate n k i
 
 module _ (count : ℕ) where
   pub fresh_shaped : Shaped (fresh_of count)
@@ -80,7 +80,7 @@ module _ (count : ℕ) where
 
   no_kind : (i : ℕ) → kind_of (fresh_of count) i ≡ undefined_number
   unfolding fresh_of
-  no_kind i = get_d_replicate attribute_limit undefined_number i
+  no_kind i = get_or_replicate attribute_limit undefined_number i
 
   pub fresh_undefined : (i : ℕ) → value_in (fresh_of count) i ≡ Undefined
   unfolding value_of

@@ -1,5 +1,7 @@
 // Values and events: what AttributeValue and Event of events.rs are in the Rust. An event is made, read and judged here; the crate
 // `filling` fills it.
+#![tactic(auto)]
+
 ghost use Rattle.std.specs.Prelude.{◌≡◌, true, ◌+◌, ◌*◌, ◌≤◌, ◌<◌, length};
 ghost use Rattle.lists.specs.Sets.{list_limit};
 ghost use Rattle.attributes.specs.Sound.{sound_table};
@@ -34,11 +36,11 @@ pub const STRING_LIST: u8 = 6;
 
 // A word's number: 1 to 65,535 in a rule, 0 in an event for a word that no rule uses. A type of its own, so that no attribute number can
 // stand for it.
-#[derive(Drop)]
+#[derive(Clone, Copy)]
 pub struct StringId(pub i64);
 
 // What an event holds of an attribute. The elements of a list stand beside it, in the event's list store.
-#[derive(Drop)]
+#[derive(Clone, Copy)]
 pub enum AttributeValue {
     Undefined,
     Boolean(bool),
@@ -52,7 +54,7 @@ pub enum AttributeValue {
 // An event: the number of its attributes, and a place for each. A place holds the number of the value's kind, or 0 where it is undefined;
 // the number of a boolean (0 or 1), an integer, a decimal or a word; a decimal's scale; a list's length. The elements of the list of
 // attribute i stand in row i of the list store. Places from `count` on are not judged.
-#[derive(Drop)]
+#[derive(Clone, Copy)]
 pub struct Event {
     pub count: usize,
     pub kinds: [u8; ATTRIBUTE_LIMIT],

@@ -1,5 +1,7 @@
 // Filling an event: what EventBuilder of events.rs is in the Rust. A reading is handed in for an attribute by name; it is set, or refused
 // and nothing is changed. A dated reading that is out of date makes its attribute undefined.
+#![tactic(auto)]
+
 ghost use Rattle.std.specs.Prelude.{◌≡◌, true, ◌+◌, ◌*◌, ◌≤◌, ◌<◌, length, pos, nat_abs};
 ghost use Rattle.std.proofs.lemmas.List.Edits.{sets};
 ghost use Rattle.lists.specs.Sets.{list_limit};
@@ -18,7 +20,7 @@ use events::{Event, STORE_SIZE, StringId};
 use lists::LIST_LIMIT;
 
 // What is handed in for an attribute. The elements of a list stand beside it. A scale or a word may be out of range: it is refused then.
-#[derive(Drop)]
+#[derive(Clone, Copy)]
 pub enum Reading {
     Undefined,
     Boolean(bool),
@@ -30,14 +32,14 @@ pub enum Reading {
 }
 
 // What filling gives: the answer, and the event after.
-#[derive(Drop)]
+#[derive(Clone, Copy)]
 pub struct Filled {
     pub answer: u8,
     pub event: Event,
 }
 
 // Where a reading goes, or the answer that refuses it.
-#[derive(Drop)]
+#[derive(Clone, Copy)]
 enum Place {
     At(usize),
     Refused(u8),

@@ -19,7 +19,7 @@ use Rattle.lists.specs.Places.{Any, index, Distinct}
 use Rattle.lists.specs.PlacesLaws.{holds, index_lt, get_or_index}
 use Rattle.lists.specs.PigeonLaws.{every_number}
 use Rattle.lists.specs.Tabulate.{tabulate}
-use Rattle.lists.specs.TabulateLaws.{length_tabulate, get_d_tabulate, tabulate_all, tabulate_pairwise}
+use Rattle.lists.specs.TabulateLaws.{length_tabulate, get_or_tabulate, tabulate_all, tabulate_pairwise}
 use Rattle.decimals.specs.declared.Order.{Order}
 use Rattle.decimals.specs.declared.Order.TheVariants.{Less, Equal, Greater}
 use Rattle.store.specs.declared.Limits.{Limits}
@@ -106,7 +106,7 @@ module _ {key : ℕ → List ℕ} {entry : ℕ → ℕ} {n : ℕ} (r : Rising ke
       record {
         place = index a;
         inside = k;
-        there = sym (get_d_tabulate n entry 0 (index a) k) ∙ get_or_index a 0 ∙ sym (holds a);
+        there = sym (get_or_tabulate n entry 0 (index a) k) ∙ get_or_index a 0 ∙ sym (holds a);
       }
 
   pub rising_distinct : (p q : ℕ) → p < n → q < n → key p ≡ key q → p ≡ q

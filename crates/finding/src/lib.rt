@@ -1,6 +1,8 @@
 // Finding: the order table of a book, which names the parts in strictly ascending order of what they hold. An insert looks a candidate up
 // in it by halving, and that it ascends strictly is the mark that no two parts are the same. specs/Keys.antt says what a part holds,
 // specs/Ascent.antt what the mark is, specs/Finding.antt what looking up answers.
+#![tactic(auto)]
+
 ghost use Rattle.std.specs.Prelude.{◌≡◌, ◌+◌, ◌*◌, ◌<◌, length};
 ghost use Rattle.decimals.specs.Order.{then_of};
 ghost use Rattle.store.specs.Layout.{Laid};
@@ -14,7 +16,7 @@ use decimals::Order;
 use store::{Head, Limits, Record};
 
 // Where a candidate is: the part that holds it, or the place in the order table where it is to stand.
-#[derive(Drop)]
+#[derive(Clone, Copy)]
 pub enum Found {
     At(usize),
     Place(usize),

@@ -1,4 +1,6 @@
 // Flattening: the entries of a sheet become codes in postfix, with Not pushed to the predicates and nested equal operators joined.
+#![tactic(auto)]
+
 ghost use Rattle.std.specs.Prelude.{◌≡◌, ◌||◌, ◌<◌, ◌≤◌, eqb};
 ghost use Rattle.evaluation.specs.Kleene.{operator_under};
 ghost use Rattle.flattening.specs.Codes.{predicate_code, operator_code};
@@ -15,7 +17,7 @@ const OR: usize = 2;
 const NOT: usize = 3;
 
 // How far a writing has come: the next entry, the next place of the output, and how many flattened rules it wrote side by side.
-#[derive(Drop)]
+#[derive(Clone, Copy)]
 pub struct Written {
     pub next: usize,
     pub at: usize,
@@ -23,7 +25,7 @@ pub struct Written {
 }
 
 // A flattened rule: its codes, and how many there are.
-#[derive(Drop)]
+#[derive(Clone, Copy)]
 pub struct Optimized {
     pub codes: [u16; 128],
     pub count: usize,

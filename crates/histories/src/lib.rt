@@ -1,1 +1,3 @@
 // Histories of calls on a book, and what is promised of them: the crate is its specs.
+#![tactic(auto)]
+

@@ -1,6 +1,8 @@
 // Input handed out line by line, in bounded memory however long it is. The caller lends a buffer and keeps a window on it, which says what
 // of the buffer was read and not yet handed out. A line that is too long is told once, with the bytes that it begins with, and its rest is
 // passed over. Nothing can be said of what is read, but that nothing of it is lost or made up.
+#![tactic(auto)]
+
 ghost use Rattle.std.specs.Prelude.{◌≡◌, ◌≤◌, ◌<◌, length};
 ghost use Rattle.input.specs.Cut.{Fine, emptied_of, whole_of, part_of, cut_of};
 ghost use Rattle.input.specs.Reading.{moved, Filled, Handed};
@@ -12,7 +14,7 @@ pub const BUFFER_SIZE: usize = 131072;
 
 // What stands in the buffer from `from` up to `to` was read and not handed out. `ended`: there is no more to read. `passing`: what comes
 // next is the rest of a line that was told as too long.
-#[derive(Drop)]
+#[derive(Clone, Copy)]
 pub struct Window {
     pub from: usize,
     pub to: usize,
@@ -21,7 +23,7 @@ pub struct Window {
 }
 
 // What a step hands out. A line is what stands in the buffer from `start` up to `end`; of one that is too long it is a part.
-#[derive(Drop)]
+#[derive(Clone, Copy)]
 pub enum Step {
     Line {
         start: usize,

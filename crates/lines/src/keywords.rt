@@ -7,7 +7,7 @@ use crate::word_end;
 use bytes_equal::same_bytes;
 
 // What the first word of a line asks for.
-#[derive(Drop)]
+#[derive(Clone, Copy)]
 pub enum Command {
     Open,
     Insert,
@@ -22,7 +22,7 @@ pub enum Command {
 }
 
 // What kind of value follows.
-#[derive(Drop)]
+#[derive(Clone, Copy)]
 pub enum Kind {
     Undefined,
     Boolean,
@@ -34,7 +34,7 @@ pub enum Kind {
     Unknown,
 }
 
-#[derive(Drop)]
+#[derive(Clone, Copy)]
 pub enum Truth {
     True,
     False,

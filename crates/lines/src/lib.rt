@@ -1,6 +1,8 @@
 // The reader of command lines, over bytes that the caller lends: the words of a line, and the lines of a run of bytes. It reads no file.
 // A line is walked by a place that is passed from call to call: from `at`, while `at` is at most the line's length, the next word is
 // `&line[at..end]` with `end` from `word_end`, and the word after it begins at `end + 1`.
+#![tactic(auto)]
+
 pub mod keywords;
 pub mod numbers;
 pub mod rows;
@@ -17,7 +19,7 @@ pub const WORD_LIMIT: usize = 64;
 pub const LINE_LIMIT: usize = 65536;
 
 // What looking for a byte gives.
-#[derive(Drop)]
+#[derive(Clone, Copy)]
 pub enum Found {
     At(usize),
     Nothing,

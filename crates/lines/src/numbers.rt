@@ -5,14 +5,14 @@ ghost use Rattle.lines.specs.Numbers.{is_negative, number_of, unsigned_of, magni
 ghost use Rattle.lines.specs.Digits.{digit_for, digits_of};
 
 // A word read as a signed number.
-#[derive(Drop)]
+#[derive(Clone, Copy)]
 pub enum Number {
     Of(i64),
     None,
 }
 
 // A word read as a number from 0 to a limit.
-#[derive(Drop)]
+#[derive(Clone, Copy)]
 pub enum Unsigned {
     Of(u64),
     None,

@@ -8,7 +8,7 @@ use crate::numbers::{Number, read_i64};
 use crate::word_end;
 
 // How many numbers a row has, or that a word is no number or there are too many.
-#[derive(Drop)]
+#[derive(Clone, Copy)]
 pub enum Row {
     Count(usize),
     Refused,

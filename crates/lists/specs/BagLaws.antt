@@ -27,6 +27,7 @@ module _ {A B : Type 0} {R : A → B → Type 0} where
   -- a place on the left has its partner on the right, and the others are a bag of the others
   pub partner : {P : A → Type 0} {xs : List A} {ys : List B} → Bag R xs ys → (a : Any P xs)
       → (b : Any (R (at a)) ys) × Bag R (rest a) (rest b)
+  partner {P = P} bnil a = elim a [ ]
   partner (bcons c t) (here p) = (c, t)
   partner (bcons c t) (there a) =
       let r = partner t a in

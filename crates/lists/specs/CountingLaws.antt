@@ -29,7 +29,7 @@ module _ {A : Type 0} {R : A → A → Type 0} (e : Equivalence R) where
       go (inr c) = c
 
   -- elements that are not related to x are covered without the place of x
-  pub cover_away : {P : A → Type 0} {ys l : List A} {x : A} (a : Any P ys) → R x (at a)
+  pub cover_away : {P : A → Type 0} {ys : List A} {x : A} {l : List A} (a : Any P ys) → R x (at a)
       → All (λ z. ¬ R x z) l → Cover R l ys → Cover R l (rest a)
   cover_away a r none none = none
   cover_away a r (both m ms) (both b bs) = both (away a r m b) (cover_away a r ms bs)

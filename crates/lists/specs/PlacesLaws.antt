@@ -37,6 +37,7 @@ module _ {A : Type 0} {P : A → Type 0} where
   none_of_lem (x ∷ xs) n = both (λ p. n (here p)) (none_of_lem xs (λ a. n (there a)))
 
   pub not_any : {xs : List A} → All (λ x. ¬ P x) xs → ¬ Any P xs
+  not_any none a = elim a [ ]
   not_any (both n h) (here p) = n p
   not_any (both n h) (there a) = not_any h a
 
@@ -90,10 +91,10 @@ module _ {A : Type 0} {P : A → Type 0} where
   get_or_index (here p) d = refl
   get_or_index (there a) d = get_or_index a d
 
-  pub all_get_d : {xs : List A} → All P xs → (i : ℕ) (d : A) → i < length xs → P (get_or xs i d)
-  all_get_d none i d h = absurd (not-suc-le-zero h)
-  all_get_d (both p k) zero d h = p
-  all_get_d (both p k) (suc i) d h = all_get_d k i d (le_of_suc-le-suc h)
+  pub all_get_or : {xs : List A} → All P xs → (i : ℕ) (d : A) → i < length xs → P (get_or xs i d)
+  all_get_or none i d h = absurd (not-suc-le-zero h)
+  all_get_or (both p k) zero d h = p
+  all_get_or (both p k) (suc i) d h = all_get_or k i d (le_of_suc-le-suc h)
 
   pub get_or_all : (xs : List A) (d : A) → ((i : ℕ) → i < length xs → P (get_or xs i d)) → All P xs
   get_or_all [] d h = none
@@ -155,10 +156,12 @@ module _ {A : Type 0} {P Q : A → Type 0} where
 
   -- what all have, the element at a place has and the others have
   pub all_at : {xs : List A} → All Q xs → (a : Any P xs) → Q (at a)
+  all_at none a = elim a [ ]
   all_at (both q h) (here p) = q
   all_at (both q h) (there a) = all_at h a
 
   pub all_rest : {xs : List A} → All Q xs → (a : Any P xs) → All Q (rest a)
+  all_rest none a = elim a [ ]
   all_rest (both q h) (here p) = h
   all_rest (both q h) (there a) = both q (all_rest h a)
 
@@ -241,18 +244,20 @@ module _ {A : Type 0} {R : A → A → Type 0} where
   pairwise_right (x ∷ xs) (pcons h d) = pairwise_right xs d
 
   pub pairwise_rest : {P : A → Type 0} {xs : List A} → Pairwise R xs → (a : Any P xs) → Pairwise R (rest a)
+  pairwise_rest {P = P} pnil a = elim a [ ]
   pairwise_rest (pcons h d) (here p) = d
   pairwise_rest (pcons h d) (there a) = pcons (all_rest h a) (pairwise_rest d a)
 
   -- where R is symmetric, the element at a place stands in it to all the others
   pub pairwise_at : ((x y : A) → R x y → R y x) → {P : A → Type 0} {xs : List A} → Pairwise R xs → (a : Any P xs) → All (R (at a)) (rest a)
+  pairwise_at s {P = P} pnil a = elim a [ ]
   pairwise_at s (pcons h d) (here p) = h
   pairwise_at s (pcons h d) (there a) = both (s _ _ (all_at h a)) (pairwise_at s d a)
 
   pub pairwise_get_or : {xs : List A} → Pairwise R xs → (i j : ℕ) (d : A) → i < j → j < length xs → R (get_or xs i d) (get_or xs j d)
   pairwise_get_or pnil i j d h k = absurd (not-suc-le-zero k)
   pairwise_get_or (pcons n e) i zero d h k = absurd (not-suc-le-zero h)
-  pairwise_get_or (pcons n e) zero (suc j) d h k = all_get_d n j d (le_of_suc-le-suc k)
+  pairwise_get_or (pcons n e) zero (suc j) d h k = all_get_or n j d (le_of_suc-le-suc k)
   pairwise_get_or (pcons n e) (suc i) (suc j) d h k = pairwise_get_or e i j d (le_of_suc-le-suc h) (le_of_suc-le-suc k)
 
   pub get_or_pairwise : (xs : List A) (d : A) → ((i j : ℕ) → i < j → j < length xs → R (get_or xs i d) (get_or xs j d)) → Pairwise R xs
@@ -297,7 +302,7 @@ module _ {A : Type 0} {R : A → A → Type 0} (s : (x y : A) → R x y → R y 
       → (i j : ℕ) (d : A) → i < length xs → j < length xs → R (get_or xs i d) (get_or xs j d) → i ≡ j
   distinct_number pnil i j d h k r = absurd (not-suc-le-zero h)
   distinct_number (pcons n e) zero zero d h k r = refl
-  distinct_number (pcons n e) zero (suc j) d h k r = absurd (all_get_d n j d (le_of_suc-le-suc k) r)
-  distinct_number (pcons n e) (suc i) zero d h k r = absurd (all_get_d n i d (le_of_suc-le-suc h) (s _ _ r))
+  distinct_number (pcons n e) zero (suc j) d h k r = absurd (all_get_or n j d (le_of_suc-le-suc k) r)
+  distinct_number (pcons n e) (suc i) zero d h k r = absurd (all_get_or n i d (le_of_suc-le-suc h) (s _ _ r))
   distinct_number (pcons n e) (suc i) (suc j) d h k r =
       ap suc (distinct_number e i j d (le_of_suc-le-suc h) (le_of_suc-le-suc k) r)

@@ -9,7 +9,7 @@ use Rattle.std.proofs.Math.Decide.{ℕ_discrete, dec_lt}
 use Rattle.std.proofs.Math.ListN.{length-append, get_or-append}
 use Rattle.std.proofs.lemmas.List.{get_or_at}
 use Rattle.lists.specs.Places.{All, Any, Pairwise}
-use Rattle.lists.specs.PlacesLaws.{all_get_d, get_or_all, any_get_or, pairwise_get_or, get_or_pairwise, neighbours_pairwise}
+use Rattle.lists.specs.PlacesLaws.{all_get_or, get_or_all, any_get_or, pairwise_get_or, get_or_pairwise, neighbours_pairwise}
 use Rattle.lists.specs.Tabulate.{tabulate}
 
 module _ {A : Type 0} where
@@ -18,14 +18,14 @@ module _ {A : Type 0} where
   length_tabulate zero f = refl
   length_tabulate (suc n) f = length-append (tabulate n f) (f n ∷ []) ∙ rw (length_tabulate n f) (omega arith)
 
-  pub get_d_tabulate : (n : ℕ) (f : ℕ → A) (d : A) (i : ℕ) → i < n → get_or (tabulate n f) i d ≡ f i
+  pub get_or_tabulate : (n : ℕ) (f : ℕ → A) (d : A) (i : ℕ) → i < n → get_or (tabulate n f) i d ≡ f i
   unfolding tabulate
-  get_d_tabulate zero f d i h = absurd (omega arith)
-  get_d_tabulate (suc n) f d i h =
+  get_or_tabulate zero f d i h = absurd (omega arith)
+  get_or_tabulate (suc n) f d i h =
       elim (ℕ_discrete i n) [
         | yes e ↦ rw e (get_or_at (tabulate n f) (f n) [] d n (length_tabulate n f))
         | no ne ↦ get_or-append (tabulate n f) (f n ∷ []) d i (rw (length_tabulate n f) (omega (arith, ne)))
-            ∙ get_d_tabulate n f d i (omega (arith, ne))
+            ∙ get_or_tabulate n f d i (omega (arith, ne))
       ]
 
   -- functions that agree below n
@@ -42,7 +42,7 @@ module _ {A : Type 0} where
   tabulate_get_or l d =
       let f : ℕ → A = λ i. get_or l i d in
       let long : length (tabulate (length l) f) ≡ length l = length_tabulate (length l) f in
-      ext_get_or d (tabulate (length l) f) l long (λ i u. get_d_tabulate (length l) f d i (rw long at u))
+      ext_get_or d (tabulate (length l) f) l long (λ i u. get_or_tabulate (length l) f d i (rw long at u))
 
   -- one value changes
   pub tabulate_set : (n : ℕ) (f g : ℕ → A) (p : ℕ) (a : A) → p < n → g p ≡ a → ((i : ℕ) → i < n → i ≢ p → g i ≡ f i)
@@ -52,10 +52,10 @@ module _ {A : Type 0} where
       ext_get_or a (tabulate n g) (set (tabulate n f) p a) (long ∙ sym (length-set (tabulate n f) p a ∙ length_tabulate n f))
       (λ i l.
       let l' : i < n = rw long at l in
-      get_d_tabulate n g a i l'
+      get_or_tabulate n g a i l'
       ∙ elim (ℕ_discrete i p) [
         | yes q ↦ rw q (e ∙ sym (get_or-set_same (tabulate n f) p a a (rw (length_tabulate n f) h)))
-        | no ne ↦ o i l' ne ∙ sym (get_or-set_other (tabulate n f) p i a a ne ∙ get_d_tabulate n f a i l')
+        | no ne ↦ o i l' ne ∙ sym (get_or-set_other (tabulate n f) p i a a ne ∙ get_or_tabulate n f a i l')
       ])
 
   -- one more
@@ -77,11 +77,11 @@ module _ {A : Type 0} where
       ext_get_or (f 0) (tabulate (n - 1) g) (take at L ++ drop (suc at) L) (length_tabulate (n - 1) g ∙ sym whole)
       (λ i l.
       let l' : i < n - 1 = rw (length_tabulate (n - 1) g) at l in
-      get_d_tabulate (n - 1) g (f 0) i l'
+      get_or_tabulate (n - 1) g (f 0) i l'
       ∙ elim (dec_lt i at) [
         | yes u ↦ lo i u
             ∙ sym (get_or-append (take at L) (drop (suc at) L) (f 0) i (omega arith) ∙ get_or-take at L i (f 0) u
-            ∙ get_d_tabulate n f (f 0) i (omega arith))
+            ∙ get_or_tabulate n f (f 0) i (omega arith))
         | no v ↦
             let e : length (take at L) + (i - at) ≡ i = omega (arith, v) in
             let s : suc at + (i - at) ≡ i + 1 = omega (arith, v) in
@@ -91,7 +91,7 @@ module _ {A : Type 0} where
             ∙ get_or-append-add (take at L) (drop (suc at) L) (i - at) (f 0)
             ∙ get_or-drop (suc at) L (i - at) (f 0)
             ∙ ap (λ (j : ℕ). get_or L j (f 0)) s
-            ∙ get_d_tabulate n f (f 0) (i + 1) (omega (arith, v)))
+            ∙ get_or_tabulate n f (f 0) (i + 1) (omega (arith, v)))
       ])
 
   pub map_tabulate : {B : Type 0} (g : A → B) (n : ℕ) (f : ℕ → A) → map g (tabulate n f) ≡ tabulate n (λ i. g (f i))
@@ -104,7 +104,7 @@ module _ {A : Type 0} where
 module _ {A : Type 0} (n : ℕ) (f : ℕ → A) where
   -- a law by the elements of the table is a law by the values of f
   value : (i : ℕ) → i < n → get_or (tabulate n f) i (f 0) ≡ f i
-  value i l = get_d_tabulate n f (f 0) i l
+  value i l = get_or_tabulate n f (f 0) i l
 
   long : length (tabulate n f) ≡ n
   long = length_tabulate n f
@@ -113,7 +113,7 @@ module _ {A : Type 0} (n : ℕ) (f : ℕ → A) where
   tabulate_all {P} h = get_or_all (tabulate n f) (f 0) (λ i l. let u : i < n = rw long at l in subst P (sym (value i u)) (h i u))
 
   pub all_tabulate : {P : A → Type 0} → All P (tabulate n f) → (i : ℕ) → i < n → P (f i)
-  all_tabulate {P} h i l = subst P (value i l) (all_get_d h i (f 0) (rw long l))
+  all_tabulate {P} h i l = subst P (value i l) (all_get_or h i (f 0) (rw long l))
 
   pub tabulate_any : {P : A → Type 0} (i : ℕ) → i < n → P (f i) → Any P (tabulate n f)
   tabulate_any {P} i l p = any_get_or (tabulate n f) i (f 0) (rw long l) (subst P (sym (value i l)) p)

@@ -9,7 +9,7 @@ use Rattle.std.proofs.lemmas.List.{length-map}
 use Rattle.evaluation.specs.declared.Operator.{Operator}
 use Rattle.evaluation.specs.declared.Operator.TheVariants.{And, Or}
 use Rattle.lists.specs.Places.{All, none, both, sum}
-use Rattle.lists.specs.PlacesLaws.{all_get_d}
+use Rattle.lists.specs.PlacesLaws.{all_get_or}
 use Rattle.predicates.specs.Predicate.{predicate_cost}
 use Rattle.ast.specs.Parts.{total, join_cost, size}
 use Rattle.ast.specs.Rules.{rule_cost}
@@ -55,4 +55,4 @@ module _ (k : ℕ) (dear : join_cost Or ≤ k) (ps : List Part) where
       by_parts s (λ f. rule_cost f ≤ k * size f)
       (λ i l hs.
       let e = flat_at_part ps s.ordered i in
-      subst₂ (λ c n. c ≤ k * n) (sym (ap rule_cost e)) (sym (ap size e)) (part_cost (part_at ps i) (all_get_d h i (over Or []) l) hs))
+      subst₂ (λ c n. c ≤ k * n) (sym (ap rule_cost e)) (sym (ap size e)) (part_cost (part_at ps i) (all_get_or h i (over Or []) l) hs))

@@ -11,7 +11,7 @@ use Rattle.std.proofs.lemmas.List.{length-map}
 use Rattle.std.proofs.Math.ListN.{get_or-map}
 use Rattle.evaluation.specs.declared.Operator.TheVariants.{Or}
 use Rattle.lists.specs.Places.{All, Distinct}
-use Rattle.lists.specs.PlacesLaws.{all_map, all_both, all_get_d, all_mapped, map_same, pairwise_get_or, get_or_pairwise}
+use Rattle.lists.specs.PlacesLaws.{all_map, all_both, all_get_or, all_mapped, map_same, pairwise_get_or, get_or_pairwise}
 use Rattle.lists.specs.Sort.{Sorted}
 use Rattle.lists.specs.PairOrder.{by_cost}
 use Rattle.lists.specs.Sift.{Marked, sift, rank}
@@ -148,9 +148,9 @@ module _ (ps : List Part) (m : List Bool) (o : Ordered zero ps)
       λ P f. all_mapped (renumber m) (sift_each m ps (over Or []) (λ i h k. f i (h, k))) in
       record {
         ordered = kept_ordered;
-        two = each Two (λ i h. renumbered_two m (part_at ps i) (all_get_d s.two i (over Or []) h.1));
-        unlike = each (UnlikeChildren (flat_at (kept m ps))) (λ i h. kept_unlike i h (all_get_d s.unlike i (over Or []) h.1));
-        canonical = each (Canonical (cost_at (kept m ps))) (λ i h. kept_canonical i h (all_get_d s.canonical i (over Or []) h.1));
+        two = each Two (λ i h. renumbered_two m (part_at ps i) (all_get_or s.two i (over Or []) h.1));
+        unlike = each (UnlikeChildren (flat_at (kept m ps))) (λ i h. kept_unlike i h (all_get_or s.unlike i (over Or []) h.1));
+        canonical = each (Canonical (cost_at (kept m ps))) (λ i h. kept_canonical i h (all_get_or s.canonical i (over Or []) h.1));
         distinct = kept_distinct (meanings_distinct s);
         small = subst (λ l. All (λ f. size f ≤ most) l) (sym kept_meanings) (sift_all m s.small);
       }

@@ -10,7 +10,7 @@ use Prim.Native.Nat.{ℕ, zero, suc, ◌≤◌, ◌<◌}
 use Rattle.std.proofs.Math.Decide.{ℕ_discrete}
 use Rattle.std.proofs.Math.ListN.{take, drop}
 use Rattle.lists.specs.Places.{All, none, both, Any, here, there, Pairwise, pnil, pcons, Distinct}
-use Rattle.lists.specs.PlacesLaws.{all_map, all_of, all_at, all_get_d, holds, pairwise_map, pairwise_mapped}
+use Rattle.lists.specs.PlacesLaws.{all_map, all_of, all_at, all_get_or, holds, pairwise_map, pairwise_mapped}
 use Rattle.lists.specs.Order.{Strict}
 use Rattle.lists.specs.OrderLaws.{number_strict, strict_along}
 use Rattle.lists.specs.Sort.{lead, put}
@@ -134,7 +134,7 @@ module _ {A : Type 0} where
     where
       go : (e : Dec (r.id ≡ (get_or rs k x).id)) → without (get_or rs k x).id rs ≡ take k rs ++ drop (suc k) rs
           → whether e (without (get_or rs k x).id rs) (r ∷ without (get_or rs k x).id rs) ≡ r ∷ take k rs ++ drop (suc k) rs
-      go (yes p) ih = absurd (all_get_d n k x (omega arith) p)
+      go (yes p) ih = absurd (all_get_or n k x (omega arith) p)
       go (no m) ih = ap (λ (l : List (Rule A)). r ∷ l) ih
 
   pub lookup_without : (i j : ℕ) (rs : List (Rule A)) → lookup j (without i rs) ≡ whether (ℕ_discrete i j) Option.none (lookup j rs)

@@ -13,7 +13,7 @@ use Rattle.std.proofs.lemmas.List.{length-map}
 use Rattle.evaluation.specs.declared.Operator.{Operator}
 use Rattle.evaluation.specs.declared.Operator.TheVariants.{Or}
 use Rattle.lists.specs.Places.{All, none, both, Any, here, there, at, index, Distinct}
-use Rattle.lists.specs.PlacesLaws.{holds, no_any, all_map, all_at, all_get_d, all_self, all_mapped, all_unmapped, any_map}
+use Rattle.lists.specs.PlacesLaws.{holds, no_any, all_map, all_at, all_get_or, all_self, all_mapped, all_unmapped, any_map}
 use Rattle.lists.specs.PlacesLaws.{any_at, any_split, any_get_or, index_lt, get_or_pairwise, distinct_number}
 use Rattle.lists.specs.BagLaws.{bag_unmap}
 use Rattle.lists.specs.SortLaws.{sorted_equal}
@@ -125,7 +125,7 @@ module _ {most : ℕ} {ps : List Part} (s : SoundParts most ps) where
   same_below zero h i j l m e = absurd (omega arith)
   same_below (suc k) h i j l m e =
       let one = same_below k (omega arith) in
-      let canonical : (q : ℕ) → q < length ps → Canonical (cost_at ps) (part_at ps q) = λ q u. all_get_d s.canonical q (over Or []) u in
+      let canonical : (q : ℕ) → q < length ps → Canonical (cost_at ps) (part_at ps q) = λ q u. all_get_or s.canonical q (over Or []) u in
       let x = below_up {n = i} {m = k} (part_at ps i) (omega arith) (below i (omega arith)) in
       let y = below_up {n = j} {m = k} (part_at ps j) (omega arith) (below j (omega arith)) in
       let same = subst₂ (λ f g. Same f g) (flat_at_part ps s.ordered i) (flat_at_part ps s.ordered j) e in
@@ -172,11 +172,11 @@ module _ {most : ℕ} {ps : List Part} (s : SoundParts most ps) where
       by_parts Flattened
       (λ i h k.
       subst Flattened (sym (flat_at_part ps s.ordered i))
-      (node_flattened (meanings ps) (part_at ps i) (all_get_d s.two i (over Or []) h) (all_get_d s.unlike i (over Or []) h) k))
+      (node_flattened (meanings ps) (part_at ps i) (all_get_or s.two i (over Or []) h) (all_get_or s.unlike i (over Or []) h) k))
 
   pub level_most : (i : ℕ) → i < length ps → 2 * level_at ps i ≤ 1 + most
   level_most i h =
-      omega (arith, level_size (flat_at ps i) (meanings_flattened i h), all_get_d s.small i nothing (in_meanings ps h))
+      omega (arith, level_size (flat_at ps i) (meanings_flattened i h), all_get_or s.small i nothing (in_meanings ps h))
 
   -- ---- each subexpression of a part is a part
 

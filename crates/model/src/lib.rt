@@ -1,1 +1,3 @@
 // The model of a book: parts, rules, insert and delete as functions of lists. The crate is its specs.
+#![tactic(auto)]
+

@@ -8,7 +8,7 @@ use native.Mathlib.Omega.{arith}
 use Rattle.std.proofs.Math.ListN.{get_or}
 use Rattle.std.specs.Int.{w64}
 use Rattle.lists.specs.Tabulate.{tabulate}
-use Rattle.lists.specs.TabulateLaws.{length_tabulate, get_d_tabulate, tabulate_ext}
+use Rattle.lists.specs.TabulateLaws.{length_tabulate, get_or_tabulate, tabulate_ext}
 use Rattle.words.specs.Word.{word, signed_word}
 use Rattle.predicates.specs.Integers.{integers_of}
 
@@ -20,7 +20,7 @@ module _ (bytes : List ℕ) where
   pub integers_item : (k : ℕ) → k < length (integers_of bytes) → get_or (integers_of bytes) k (pos 0) ≡ signed_word bytes (8 * k)
   unfolding integers_of
   integers_item k h =
-      get_d_tabulate (length bytes / 8) (λ k. signed_word bytes (8 * k)) (pos 0) k (omega (arith, integers_length))
+      get_or_tabulate (length bytes / 8) (λ k. signed_word bytes (8 * k)) (pos 0) k (omega (arith, integers_length))
 
 -- ---- n elements from a place of longer bytes
 

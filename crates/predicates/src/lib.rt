@@ -1,5 +1,7 @@
 // What a rule asks of one attribute: Predicate and its operators of predicates.rs in the Rust. A kind of predicate has a number in the rule
 // sheet, suits some literals and attributes, has a kind that says the opposite and a cost, and says something of each value.
+#![tactic(auto)]
+
 use decimals::Decimal;
 use events::StringId;
 
@@ -12,13 +14,13 @@ pub use kinds::kind_of;
 pub use meaning::{evaluate, literal_of};
 pub use suiting::suits;
 
-#[derive(Drop)]
+#[derive(Clone, Copy)]
 pub enum SetOperator {
     NotIn,
     In,
 }
 
-#[derive(Drop)]
+#[derive(Clone, Copy)]
 pub enum ComparisonOperator {
     LessThan,
     LessThanEqual,
@@ -26,13 +28,13 @@ pub enum ComparisonOperator {
     GreaterThan,
 }
 
-#[derive(Drop)]
+#[derive(Clone, Copy)]
 pub enum EqualityOperator {
     Equal,
     NotEqual,
 }
 
-#[derive(Drop)]
+#[derive(Clone, Copy)]
 pub enum ListOperator {
     OneOf,
     NoneOf,
@@ -40,7 +42,7 @@ pub enum ListOperator {
     NotAllOf,
 }
 
-#[derive(Drop)]
+#[derive(Clone, Copy)]
 pub enum NullOperator {
     IsNull,
     IsNotNull,
@@ -48,7 +50,7 @@ pub enum NullOperator {
     IsNotEmpty,
 }
 
-#[derive(Drop)]
+#[derive(Clone, Copy)]
 pub enum PredicateKind {
     Variable,
     NegatedVariable,
@@ -60,7 +62,7 @@ pub enum PredicateKind {
 }
 
 // What a predicate holds its attribute against. The elements of a list stand beside it, in the book.
-#[derive(Drop)]
+#[derive(Clone, Copy)]
 pub enum Literal {
     Nothing,
     Integer(i64),

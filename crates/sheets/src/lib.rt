@@ -1,5 +1,7 @@
 // The rule sheet: n, then n entries of five numbers in prefix order, then the elements of their lists. `first` is the place of the first
 // entry, with n right before it: 1 in the edition of today.
+#![tactic(auto)]
+
 ghost use Rattle.std.specs.Prelude.{◌≡◌, ◌+◌, ◌*◌, ◌<◌, ◌≤◌, length, get_or, pos};
 ghost use Rattle.sheets.specs.Entries.{natural_of, field_of};
 ghost use Rattle.sheets.specs.Form.{answer_of};
@@ -13,7 +15,7 @@ pub use reading::{elements_of, read_predicate};
 pub use suiting::check_predicates;
 
 // An entry as it is handed on: the numbers of its predicate, the decimal in normal form, and where its list stands in the sheet.
-#[derive(Drop)]
+#[derive(Clone, Copy)]
 pub struct Entry {
     pub attribute: usize,
     pub kind: u8,

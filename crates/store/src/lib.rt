@@ -1,6 +1,8 @@
 // The store: a book's bytes, lent as a slice and laid out by limits that are parameters, and what reads and writes one thing in them.
 // All other code goes through these functions. specs/Layout.antt says where each table stands, specs/Tables.antt how the bytes are read as
 // a book.
+#![tactic(auto)]
+
 ghost use Rattle.std.specs.Prelude.{◌≡◌, ◌+◌, ◌*◌, ◌<◌, ◌≤◌, length, take, drop};
 ghost use Rattle.words.specs.Word.{put};
 ghost use Rattle.store.specs.Layout.{attributes_at, rules_at, parts_at, places_at, elements_at, order_at, size_of, Within, Laid};
@@ -10,7 +12,7 @@ ghost use Rattle.store.specs.Records.{record_at, put_record, rule_at, put_rule};
 ghost use Rattle.store.specs.Records.{place_at, put_place, element_word, put_element, entry_at, put_entry};
 
 // How many rules, parts, child places and list elements a book has room for.
-#[derive(Drop)]
+#[derive(Clone, Copy)]
 pub struct Limits {
     pub rules: usize,
     pub parts: usize,
@@ -20,7 +22,7 @@ pub struct Limits {
 
 // A part. `start` and `length` are its run of child places or of list elements; `number` is the two's complement of a predicate's number.
 // `level`, `size` and `cost` are those of the part as a tree.
-#[derive(Drop)]
+#[derive(Clone, Copy)]
 pub struct Record {
     pub kind: u8,
     pub attribute: u8,
@@ -35,7 +37,7 @@ pub struct Record {
 }
 
 // A live rule: its id, and the number of its root part.
-#[derive(Drop)]
+#[derive(Clone, Copy)]
 pub struct Rule {
     pub id: u32,
     pub root: u32,
@@ -299,7 +301,7 @@ pub fn put_entry(bytes: &mut [u8], limits: Limits, k: usize, part: u16)
 
 // What the order of two parts looks at first: the kind, the first four bytes as one number, the number, and the run of child places or of
 // list elements.
-#[derive(Drop)]
+#[derive(Clone, Copy)]
 pub struct Head {
     pub kind: u8,
     pub first: u32,

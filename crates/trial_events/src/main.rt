@@ -1,4 +1,6 @@
 // Events filled, refused and dated at their limits. What this writes is held to what tools/event_trials.py works out.
+#![tactic(auto)]
+
 mod damaged;
 mod dated;
 mod filled;

@@ -1,5 +1,7 @@
 // Numbers in bytes, least significant byte first: read and written at a place of a lent slice. Assumes nothing.
 // A number is two of half the width: of the halves the compiler makes one load or one store.
+#![tactic(auto)]
+
 ghost use Rattle.std.specs.Prelude.{◌≡◌, ◌+◌, ◌≤◌, length};
 ghost use Rattle.words.specs.Word.{word, put, signed_word, put_signed};
 ghost use Rattle.std.specs.Int.{w64};
