@@ -2,13 +2,8 @@ pub mod Trees
 pub mod TreesLaws
 pub mod OperatorLaws
 pub mod Flattening
-pub mod FlatteningLaws
 pub mod Same
 pub mod SameLaws
 pub mod Parts
-pub mod PartsLaws
-pub mod SizeLaws
 pub mod Room
-pub mod RoomLaws
 pub mod Rules
-pub mod Trials

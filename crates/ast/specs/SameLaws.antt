@@ -9,10 +9,10 @@ use Rattle.evaluation.specs.declared.Operator.{Operator}
 use Rattle.evaluation.specs.Kleene.{join_of, join_all}
 use Rattle.evaluation.specs.KleeneLaws.{join_swap}
 use Rattle.lists.specs.Places.{All, none, both, Any, here, there, at, rest}
-use Rattle.lists.specs.PlacesLaws.{holds, any_at, rest_at}
+use Rattle.lists.proofs.PlacesLaws.{holds, any_at, rest_at}
 use Rattle.lists.specs.Equivalence.{Equivalence}
 use Rattle.lists.specs.Bag.{Bag, bnil, bcons}
-use Rattle.lists.specs.BagLaws.{bag_refl, bag_sym, bag_trans, bag?, bag_map}
+use Rattle.lists.proofs.BagLaws.{bag_refl, bag_sym, bag_trans, bag?, bag_map}
 use Rattle.ast.specs.Trees.{Flat, leaf, node, Flats, done, more, kids, trees, fold, flat_value}
 use Rattle.ast.specs.TreesLaws.{flat_ind, kids_trees, fold_node}
 use Rattle.ast.specs.OperatorLaws.{operator?}

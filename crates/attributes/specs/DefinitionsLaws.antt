@@ -9,7 +9,7 @@ use Rattle.std.proofs.Math.Decide.{ℕ_discrete}
 use Rattle.std.proofs.Common.{arith, length-take-le}
 use borrow.Author.Tests.{ltb-true, eq-eqb, ne_eqb}
 use Rattle.error.specs.Answers.{Done, LimitPassed, NameTwice, number}
-use Rattle.error.specs.AnswersLaws.{one_number_each}
+use Rattle.error.proofs.AnswersLaws.{one_number_each}
 use Rattle.lists.specs.AndLaws.{and_left, and_right}
 use Rattle.attributes.specs.declared.AttributeId.{AttributeId}
 use Rattle.attributes.specs.declared.Definition.{Definition}

@@ -14,7 +14,7 @@ use native.Mathlib.Decide.{ℕ_discrete}
 use native.Mathlib.Omega.{arith}
 use lib.ListN.{length}
 use Rattle.lists.specs.Tabulate.{tabulate}
-use Rattle.lists.specs.TabulateLaws.{tabulate_more}
+use Rattle.lists.proofs.TabulateLaws.{tabulate_more}
 use Rattle.words.specs.Word.{put}
 use Rattle.words.specs.Frame.{Only}
 use Rattle.words.proofs.WordLaws.{word_back}

@@ -7,7 +7,7 @@ use mathlib.Core.Logic.{inl, inr}
 use Prim.Native.Nat.{ℕ, ◌+◌, ◌*◌, ◌<◌}
 use native.Mathlib.Omega.{arith}
 use lib.ListN.{length, get_or}
-use Rattle.lists.specs.TabulateLaws.{tabulate_ext, tabulate_get_or}
+use Rattle.lists.proofs.TabulateLaws.{tabulate_ext, tabulate_get_or}
 use Rattle.words.specs.Frame.{Only}
 use Rattle.words.proofs.FrameLaws.{only_wide, word_only}
 use Rattle.words.proofs.SignLaws.{signed_only}

@@ -8,7 +8,7 @@ use native.Mathlib.Omega.{arith}
 use lib.ListN.{length, get_or, take, drop, length-append, length-drop, get_or-append}
 use lib.Seq.{get_or_at, ext_get_or, length-take-le, get_or-take, get_or-drop, get_or-append-add}
 use Rattle.lists.specs.Tabulate.{tabulate}
-use Rattle.lists.specs.TabulateLaws.{length_tabulate, get_or_tabulate}
+use Rattle.lists.proofs.TabulateLaws.{length_tabulate, get_or_tabulate}
 use Rattle.changes.specs.Placing.{inserted_at}
 
 module _ {A : Type 0} (n : ℕ) (f g : ℕ → A) (k : ℕ) (x : A) (fits : k ≤ n)

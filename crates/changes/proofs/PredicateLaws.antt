@@ -11,7 +11,7 @@ use lib.IntN.{ℤ, pos}
 use mir.Syntax.{w64}
 use mir.Val.{to_z, of_z}
 use mir.ValLaws.{to_z-of_z, of_z_fits}
-use Rattle.lists.specs.TabulateLaws.{tabulate_ext, tabulate_get_or}
+use Rattle.lists.proofs.TabulateLaws.{tabulate_ext, tabulate_get_or}
 use Rattle.words.specs.Word.{signed_word}
 use Rattle.words.specs.Frame.{Only}
 use Rattle.words.proofs.FrameLaws.{only_wide, word_only}

@@ -13,7 +13,7 @@ use native.Mathlib.Decide.{ℕ_discrete, dec_lt}
 use native.Mathlib.Omega.{arith}
 use lib.ListN.{length, get_or}
 use Rattle.lists.specs.Tabulate.{tabulate}
-use Rattle.lists.specs.TabulateLaws.{tabulate_ext, tabulate_remove, map_tabulate}
+use Rattle.lists.proofs.TabulateLaws.{tabulate_ext, tabulate_remove, map_tabulate}
 use Rattle.words.specs.Word.{put}
 use Rattle.words.specs.Frame.{Only, Bytes}
 use Rattle.words.proofs.WordLaws.{word_back}

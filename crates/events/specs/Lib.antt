@@ -2,6 +2,3 @@ pub mod Values
 pub mod ValuesLaws
 pub mod Events
 pub mod Suits
-pub mod SuitsLaws
-pub mod EventsLaws
-pub mod SuitedLaws

@@ -1,1 +1,5 @@
 pub mod RowLaws
+pub mod AgesLaws
+pub mod FilledLaws
+pub mod FillingLaws
+pub mod SettingLaws

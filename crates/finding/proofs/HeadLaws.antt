@@ -12,7 +12,7 @@ use Rattle.words.specs.Word.{word}
 use Rattle.words.specs.Frame.{Bytes}
 use Rattle.words.proofs.WordLaws.{word_split}
 use Rattle.words.proofs.FrameLaws.{word_lt}
-use Rattle.lists.specs.TabulateLaws.{length_tabulate}
+use Rattle.lists.proofs.TabulateLaws.{length_tabulate}
 use Rattle.decimals.specs.Order.{then_of}
 use Rattle.decimals.specs.declared.Order.{Order}
 use Rattle.decimals.specs.declared.Order.TheVariants.{Less, Equal, Greater}

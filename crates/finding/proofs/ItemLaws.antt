@@ -11,7 +11,7 @@ use mir.Syntax.{w64}
 use mir.Val.{to_z, of_z, SFits}
 use mir.ValLaws.{to_z-of_z}
 use Rattle.lists.specs.Tabulate.{tabulate}
-use Rattle.lists.specs.TabulateLaws.{tabulate_get_or, map_tabulate}
+use Rattle.lists.proofs.TabulateLaws.{tabulate_get_or, map_tabulate}
 use Rattle.decimals.specs.declared.Order.TheVariants.{Less, Equal, Greater}
 use Rattle.store.specs.declared.Limits.{Limits}
 use Rattle.store.specs.Layout.{Within}

@@ -16,10 +16,10 @@ use borrow.Author.Tests.{ltb-true, lt-ltb}
 use Rattle.lists.specs.AndLaws.{and_left, and_right, and_both}
 use Rattle.lists.specs.BelowLaws.{below_each, below_all}
 use Rattle.lists.specs.Places.{Any, index, Distinct}
-use Rattle.lists.specs.PlacesLaws.{holds, index_lt, get_or_index}
-use Rattle.lists.specs.PigeonLaws.{every_number}
+use Rattle.lists.proofs.PlacesLaws.{holds, index_lt, get_or_index}
+use Rattle.lists.proofs.PigeonLaws.{every_number}
 use Rattle.lists.specs.Tabulate.{tabulate}
-use Rattle.lists.specs.TabulateLaws.{length_tabulate, get_or_tabulate, tabulate_all, tabulate_pairwise}
+use Rattle.lists.proofs.TabulateLaws.{length_tabulate, get_or_tabulate, tabulate_all, tabulate_pairwise}
 use Rattle.decimals.specs.declared.Order.{Order}
 use Rattle.decimals.specs.declared.Order.TheVariants.{Less, Equal, Greater}
 use Rattle.store.specs.declared.Limits.{Limits}

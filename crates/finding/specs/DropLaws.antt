@@ -13,12 +13,12 @@ use mathlib.Core.List.{List, [], ◌∷◌, ◌++◌, append-nil}
 use Rattle.std.proofs.lemmas.List.{length-map}
 use Rattle.words.specs.Frame.{Bytes}
 use Rattle.lists.specs.Places.{All, none, both, Any, here, there, Pairwise, pnil, pcons, Distinct}
-use Rattle.lists.specs.PlacesLaws.{pairwise_map}
-use Rattle.lists.specs.PigeonLaws.{at_most, at_least}
+use Rattle.lists.proofs.PlacesLaws.{pairwise_map}
+use Rattle.lists.proofs.PigeonLaws.{at_most, at_least}
 use Rattle.lists.specs.Sift.{rank}
-use Rattle.lists.specs.SiftLaws.{rank_lt, rank_onto}
+use Rattle.lists.proofs.SiftLaws.{rank_lt, rank_onto}
 use Rattle.lists.specs.Tabulate.{tabulate}
-use Rattle.lists.specs.TabulateLaws.{tabulate_all, tabulate_any, all_tabulate, tabulate_pairwise, pairwise_tabulate}
+use Rattle.lists.proofs.TabulateLaws.{tabulate_all, tabulate_any, all_tabulate, tabulate_pairwise, pairwise_tabulate}
 use Rattle.decimals.specs.Order.{then_of}
 use Rattle.decimals.specs.declared.Order.{Order}
 use Rattle.decimals.specs.declared.Order.TheVariants.{Less}

@@ -9,7 +9,7 @@ use Rattle.std.proofs.Math.Path.{ap}
 use Rattle.std.proofs.Common.{◌∙◌}
 use Rattle.std.proofs.Math.Dec.{ltb}
 use Rattle.std.proofs.Math.ListN.{get_or}
-use Rattle.lists.specs.TabulateLaws.{tabulate_ext, tabulate_get_or}
+use Rattle.lists.proofs.TabulateLaws.{tabulate_ext, tabulate_get_or}
 use Rattle.store.specs.declared.Limits.{Limits}
 use Rattle.store.specs.declared.Record.{Record}
 use Rattle.store.specs.Records.{record_at}

@@ -12,7 +12,7 @@ use Rattle.std.specs.Prelude.{◌≡◌, refl, Bool, true, false, List, [], ◌�
 use Rattle.std.proofs.Common.{sym, ap, ◌∙◌, le_of_suc-le-suc, arith, ltb-true, ltb-false, lt-ltb, le-ltb}
 use Rattle.lists.specs.Places.{All, both}
 use Rattle.lists.specs.Tabulate.{tabulate}
-use Rattle.lists.specs.TabulateLaws.{tabulate_ext}
+use Rattle.lists.proofs.TabulateLaws.{tabulate_ext}
 use Rattle.decimals.proofs.OrderLaws.{impossible}
 use Rattle.decimals.specs.Order.{turned_of, then_of}
 use Rattle.decimals.specs.declared.Order.{Order}

@@ -16,7 +16,7 @@ use Rattle.words.specs.Word.{signed_word}
 use Rattle.words.specs.Frame.{Bytes}
 use Rattle.words.proofs.FrameLaws.{word_lt}
 use Rattle.lists.specs.Places.{All, none, both, Distinct}
-use Rattle.lists.specs.TabulateLaws.{map_tabulate, tabulate_all, tabulate_pairwise}
+use Rattle.lists.proofs.TabulateLaws.{map_tabulate, tabulate_all, tabulate_pairwise}
 use Rattle.evaluation.specs.declared.Operator.{Operator}
 use Rattle.evaluation.specs.declared.Operator.TheVariants.{And, Or}
 use Rattle.predicates.specs.Predicate.{Predicate}

@@ -14,11 +14,11 @@ use Rattle.evaluation.specs.Kleene.{operator_under}
 use Rattle.evaluation.specs.KleeneLaws.{turned_turned}
 use Rattle.ast.specs.Trees.{Tree, Join, Not, Value, entries, Flats, node, kids}
 use Rattle.ast.specs.Flattening.{◌⧺◌, splice, joined, flat, Unlike}
-use Rattle.ast.specs.FlatteningLaws.{splice_own, splice_unlike}
+use Rattle.ast.proofs.FlatteningLaws.{splice_own, splice_unlike}
 use Rattle.sheets.specs.Entries.{natural_of, kind_of}
 use Rattle.sheets.specs.Spells.{joins, negates, stands, shape_of, Spells}
 use Rattle.flattening.specs.Codes.{predicate_code, operator_code, codes_under}
-use Rattle.flattening.specs.CodesLaws.{node_long, kids_most, codes_most, spliced_most}
+use Rattle.flattening.proofs.CodesLaws.{node_long, kids_most, codes_most, spliced_most}
 use Rattle.flattening.specs.Kinds.{kind_number}
 use Rattle.sheets.specs.SpellsLaws.{spells_size}
 use Rattle.flattening.specs.SpellsLaws.{negates_kind, joins_kind, spells_not, spells_join, spells_value, entries_some}

@@ -10,9 +10,9 @@ use lib.Seq.{sets, sets-eq}
 use Rattle.evaluation.specs.declared.Operator.{Operator}
 use Rattle.ast.specs.Trees.{Flat, leaf, node, Flats, kids}
 use Rattle.ast.specs.Flattening.{one, ◌⧺◌}
-use Rattle.ast.specs.FlatteningLaws.{kids_append}
+use Rattle.ast.proofs.FlatteningLaws.{kids_append}
 use Rattle.flattening.specs.Codes.{operator_code, codes_of, codes_under}
-use Rattle.flattening.specs.CodesLaws.{codes_append, codes_one, node_long}
+use Rattle.flattening.proofs.CodesLaws.{codes_append, codes_one, node_long}
 use Rattle.flattening.specs.Writing.{Wrote, Coded}
 use Rattle.flattening.specs.declared.Written.{Written}
 

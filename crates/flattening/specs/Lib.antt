@@ -1,11 +1,6 @@
 pub mod Codes
-pub mod CodesLaws
 pub mod Running
-pub mod RunningLaws
 pub mod Mapping
-pub mod MappingLaws
 pub mod Kinds
 pub mod SpellsLaws
 pub mod Writing
-pub mod OptimizeLaws
-pub mod Trials

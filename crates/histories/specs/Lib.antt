@@ -1,12 +1,5 @@
 pub mod Calls
-pub mod CallsLaws
 pub mod Live
-pub mod LiveLaws
 pub mod Stands
-pub mod StandsLaws
-pub mod Runs
 pub mod Owners
-pub mod OwnersLaws
 pub mod Report
-pub mod ReportLaws
-pub mod Demands

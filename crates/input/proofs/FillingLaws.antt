@@ -11,7 +11,7 @@ use lib.ListN.{length, get_or, set, take, drop, length-append, length-drop}
 use lib.Seq.{drop-cons, take-suc, take-take, take_at, set_at, append_snoc, get_or-drop, get_or-append-add, length-take-le, take-length}
 use Rattle.input.specs.declared.Window.{Window}
 use Rattle.input.specs.Cut.{unread, Fine}
-use Rattle.input.specs.CutLaws.{part_length}
+use Rattle.input.proofs.CutLaws.{part_length}
 use Rattle.input.specs.Reading.{moved, Filled}
 
 -- ---- moving down

@@ -1,1 +1,3 @@
 mod FillingLaws
+pub mod CutLaws
+pub mod ReadingLaws

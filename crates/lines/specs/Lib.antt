@@ -5,7 +5,6 @@ pub mod PartsLaws
 pub mod Words
 pub mod WordsLaws
 pub mod Colon
-pub mod ColonLaws
 pub mod Keywords
 pub mod KeywordsLaws
 pub mod Numbers
@@ -14,4 +13,3 @@ pub mod Digits
 pub mod DigitsLaws
 pub mod Rows
 pub mod RowsLaws
-pub mod Trials

@@ -10,8 +10,8 @@ use lib.ListN.{length}
 use lib.IntN.{ℤ}
 use lib.Signed.{lt_z}
 use Rattle.lists.specs.Sets.{eq_z, within, ascends}
-use Rattle.lists.specs.IntegerLaws.{lt_z_trans, below_differs, above_differs, neither_below}
-use Rattle.lists.specs.SetsLaws.{ascends_first, ascends_rest}
+use Rattle.lists.proofs.IntegerLaws.{lt_z_trans, below_differs, above_differs, neither_below}
+use Rattle.lists.proofs.SetsLaws.{ascends_first, ascends_rest}
 use Rattle.lists.proofs.Items.{item}
 
 -- the first is below each later one, so an earlier one is below a later one

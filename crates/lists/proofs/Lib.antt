@@ -4,3 +4,15 @@ pub mod HalvingLaws
 pub mod MergingLaws
 pub mod PlacingLaws
 pub mod RowLaws
+pub mod BagLaws
+pub mod CountingLaws
+pub mod FirstLaws
+pub mod IntegerLaws
+pub mod PigeonLaws
+pub mod PlacesLaws
+pub mod SetsLaws
+pub mod SiftLaws
+pub mod SortLaws
+pub mod TabulateLaws
+pub mod PairOrderLaws
+pub mod AscendsLaws

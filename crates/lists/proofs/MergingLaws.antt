@@ -13,8 +13,8 @@ use lib.IntN.{ℤ, pos}
 use lib.Signed.{lt_z}
 use Rattle.lists.specs.Sets.{eq_z, within, shares, inside, ascends}
 use Rattle.lists.specs.BoolLaws.{or_left, or_right}
-use Rattle.lists.specs.IntegerLaws.{eq_z_sym, eq_z_same, neither_below}
-use Rattle.lists.specs.SetsLaws.{ascends_rest, absent_below, absent_rest}
+use Rattle.lists.proofs.IntegerLaws.{eq_z_sym, eq_z_same, neither_below}
+use Rattle.lists.proofs.SetsLaws.{ascends_rest, absent_below, absent_rest}
 use Rattle.lists.proofs.Items.{item}
 
 -- what `shares` and `inside` have in common: each joins, element by element of the left list, whether it is in the right one

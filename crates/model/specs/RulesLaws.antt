@@ -10,11 +10,11 @@ use Prim.Native.Nat.{ℕ, zero, suc, ◌≤◌, ◌<◌}
 use Rattle.std.proofs.Math.Decide.{ℕ_discrete}
 use Rattle.std.proofs.Math.ListN.{take, drop}
 use Rattle.lists.specs.Places.{All, none, both, Any, here, there, Pairwise, pnil, pcons, Distinct}
-use Rattle.lists.specs.PlacesLaws.{all_map, all_of, all_at, all_get_or, holds, pairwise_map, pairwise_mapped}
+use Rattle.lists.proofs.PlacesLaws.{all_map, all_of, all_at, all_get_or, holds, pairwise_map, pairwise_mapped}
 use Rattle.lists.specs.Order.{Strict}
 use Rattle.lists.specs.OrderLaws.{number_strict, strict_along}
 use Rattle.lists.specs.Sort.{lead, put}
-use Rattle.lists.specs.AscendingLaws.{put_ascending}
+use Rattle.lists.proofs.AscendingLaws.{put_ascending}
 use Rattle.model.specs.Rules.{Rule, whether, lookup, without, earlier, entered, moved, IdsAscend}
 
 -- two rules have one id

@@ -1,1 +1,3 @@
 pub mod AmountLaws
+pub mod MeaningLaws
+pub mod Trials

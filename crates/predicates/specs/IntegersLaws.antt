@@ -8,7 +8,7 @@ use native.Mathlib.Omega.{arith}
 use Rattle.std.proofs.Math.ListN.{get_or}
 use Rattle.std.specs.Int.{w64}
 use Rattle.lists.specs.Tabulate.{tabulate}
-use Rattle.lists.specs.TabulateLaws.{length_tabulate, get_or_tabulate, tabulate_ext}
+use Rattle.lists.proofs.TabulateLaws.{length_tabulate, get_or_tabulate, tabulate_ext}
 use Rattle.words.specs.Word.{word, signed_word}
 use Rattle.predicates.specs.Integers.{integers_of}
 

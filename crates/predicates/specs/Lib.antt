@@ -7,5 +7,3 @@ pub mod Predicate
 pub mod Integers
 pub mod IntegersLaws
 pub mod Meaning
-pub mod MeaningLaws
-pub mod Trials

@@ -1,1 +1,10 @@
 pub mod SignLaws
+pub mod AcceptedLaws
+pub mod AnswersLaws
+pub mod EncodingLaws
+pub mod FormLaws
+pub mod ListFitsLaws
+pub mod OwedLaws
+pub mod SheetTrials
+pub mod SuitingLaws
+pub mod WrittenLaws

@@ -10,15 +10,6 @@ pub mod RangeLaws
 pub mod TableLaws
 pub mod SpellsLaws
 pub mod BodiesLaws
-pub mod OwedLaws
-pub mod ListFitsLaws
-pub mod FormLaws
-pub mod AnswersLaws
 pub mod ReadingLaws
 pub mod Encoding
-pub mod WrittenLaws
-pub mod EncodingLaws
 pub mod Suiting
-pub mod SuitingLaws
-pub mod AcceptedLaws
-pub mod SheetTrials

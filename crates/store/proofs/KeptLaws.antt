@@ -10,7 +10,7 @@ use mathlib.Core.Logic.{◌⊎◌, inl, inr, ⊎_elim}
 use Prim.Native.Nat.{ℕ, ◌+◌, ◌*◌, ◌≤◌, ◌<◌}
 use native.Mathlib.Omega.{arith}
 use Rattle.attributes.specs.Table.{table_size}
-use Rattle.lists.specs.TabulateLaws.{tabulate_ext}
+use Rattle.lists.proofs.TabulateLaws.{tabulate_ext}
 use Rattle.words.specs.Frame.{Only, Outside}
 use Rattle.words.proofs.FrameLaws.{word_only, part_only}
 use Rattle.words.proofs.SignLaws.{signed_only}

@@ -18,7 +18,7 @@ use lib.Seq.{get_or-take, get_or-drop}
 use mir.Syntax.{w64}
 use mir.Val.{to_z}
 use Rattle.lists.specs.Tabulate.{tabulate}
-use Rattle.lists.specs.TabulateLaws.{tabulate_ext}
+use Rattle.lists.proofs.TabulateLaws.{tabulate_ext}
 use Rattle.words.specs.Word.{word, signed_word}
 use Rattle.words.proofs.WordLaws.{word_ext}
 use Rattle.store.specs.declared.Limits.{Limits}

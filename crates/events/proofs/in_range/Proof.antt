@@ -1,7 +1,7 @@
 -- `events::in_range` meets its contract: each way out is the range of a kind. Assumes nothing.
 use mathlib.Core.Path.{sym, ◌∙◌}
 use mir.Facts.{to_z-of_z}
-use Rattle.events.specs.SuitsLaws.{range_boolean, range_float, range_string, range_words, range_other}
+use Rattle.events.proofs.SuitsLaws.{range_boolean, range_float, range_string, range_words, range_other}
 use borrow.Author.Rules.{rules}
 use Rattle.events.proofs.in_range.Statement.{statement}
 use Rattle.events.proofs.in_range.Tie as tie

@@ -2,7 +2,7 @@
 use mathlib.Core.Path.{sym, ◌∙◌}
 use borrow.Author.Tests.{not-true, not-false}
 use mir.Facts.{to_z-of_z}
-use Rattle.events.specs.SuitsLaws.{place_undefined, place_other, place_list, place_range}
+use Rattle.events.proofs.SuitsLaws.{place_undefined, place_other, place_list, place_range}
 use borrow.Author.Rules.{rules}
 use Rattle.events.proofs.place_suits.Statement.{statement}
 use Rattle.events.proofs.place_suits.Tie as tie

@@ -3,7 +3,7 @@ use mathlib.Core.Path.{sym, ap, ◌∙◌}
 use mathlib.Core.Bool.{true, false}
 use Rattle.error.specs.Answers.{Done, NotSet}
 use Rattle.filling.specs.Filling.{outcome}
-use Rattle.filling.specs.FillingLaws.{named_within, accepted, filled_at, filled_refused}
+use Rattle.filling.proofs.FillingLaws.{named_within, accepted, filled_at, filled_refused}
 use borrow.Author.Rules.{rules}
 use Rattle.filling.proofs.fill_when.Statement.{statement}
 use Rattle.filling.proofs.fill_when.Tie as tie

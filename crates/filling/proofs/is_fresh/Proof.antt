@@ -1,6 +1,6 @@
 -- `filling::is_fresh` meets its contract. Assumes nothing.
 use mathlib.Core.Path.{sym}
-use Rattle.filling.specs.AgesLaws.{fresh_ahead, fresh_past}
+use Rattle.filling.proofs.AgesLaws.{fresh_ahead, fresh_past}
 use borrow.Author.Rules.{rules}
 use Rattle.filling.proofs.is_fresh.Statement.{statement}
 use Rattle.filling.proofs.is_fresh.Tie as tie

@@ -2,7 +2,7 @@
 use mathlib.Core.Path.{sym, ◌∙◌}
 use borrow.Author.Tests.{not-true, not-false}
 use Rattle.attributes.specs.SoundLaws.{sound_iff}
-use Rattle.filling.specs.FillingLaws.{named_within, place_unsuited, place_nowhere, place_kind, place_limit, place_there}
+use Rattle.filling.proofs.FillingLaws.{named_within, place_unsuited, place_nowhere, place_kind, place_limit, place_there}
 use borrow.Author.Rules.{rules}
 use Rattle.filling.proofs.place_for.Statement.{statement}
 use Rattle.filling.proofs.place_for.Tie as tie

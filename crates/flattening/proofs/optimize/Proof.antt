@@ -3,7 +3,7 @@ use mathlib.Core.Bool.{false}
 use native.Mathlib.Omega.{arith}
 use Rattle.ast.specs.Flattening.{optimize}
 use Rattle.flattening.specs.Codes.{predicate_code}
-use Rattle.flattening.specs.CodesLaws.{codes_most}
+use Rattle.flattening.proofs.CodesLaws.{codes_most}
 use Rattle.sheets.specs.SpellsLaws.{spells_size, one_tree_lem}
 use Rattle.flattening.proofs.WritingLaws.{wrote_whole}
 use borrow.Author.Rules.{rules}

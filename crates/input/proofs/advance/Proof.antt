@@ -1,7 +1,7 @@
 -- `input::advance` meets its contract. Assumes nothing.
 use mathlib.Core.Path.{sym, ◌∙◌}
 use Rattle.input.specs.Cut.{Fine}
-use Rattle.input.specs.ReadingLaws.{cut_within, hand_disordered, hand_outside, hand_line, hand_long, hand_end, hand_more}
+use Rattle.input.proofs.ReadingLaws.{cut_within, hand_disordered, hand_outside, hand_line, hand_long, hand_end, hand_more}
 use borrow.Author.Rules.{rules}
 use Rattle.input.proofs.advance.Statement.{statement}
 use Rattle.input.proofs.advance.Tie as tie

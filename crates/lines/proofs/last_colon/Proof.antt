@@ -4,7 +4,7 @@ use Prim.Native.Nat.{suc, ◌-◌, ◌≤◌}
 use native.Mathlib.Omega.{arith}
 use lib.ListN.{length, drop}
 use Rattle.lines.specs.Colon.{last_colon}
-use Rattle.lines.specs.ColonLaws.{colon_none, colon_at, colon_past}
+use Rattle.lines.proofs.ColonLaws.{colon_none, colon_at, colon_past}
 use Rattle.lines.specs.declared.Found.TheVariants.{Nothing}
 use borrow.Author.Rules.{rules}
 use Rattle.lines.proofs.last_colon.Statement.{statement}

@@ -11,7 +11,7 @@ use Rattle.error.specs.Answers.{number}
 use Rattle.sheets.specs.Entries.{natural_of}
 use Rattle.sheets.specs.WellFormed.{count_of, count_at}
 use Rattle.sheets.specs.Form.{form_answer, counted_answer}
-use Rattle.sheets.specs.AnswersLaws.{counting, counted_answer_lem}
+use Rattle.sheets.proofs.AnswersLaws.{counting, counted_answer_lem}
 use Rattle.sheets.proofs.check_form.Statement.{statement}
 use Rattle.sheets.proofs.check_form.Tie as tie
 

@@ -3,7 +3,7 @@ use mathlib.Core.Path.{sym, ◌∙◌}
 use borrow.Author.Tests.{not-true, not-false}
 use borrow.Author.Rules.{rules}
 use Rattle.sheets.specs.Form.{counted_answer}
-use Rattle.sheets.specs.FormLaws.{formed_told}
+use Rattle.sheets.proofs.FormLaws.{formed_told}
 use Rattle.sheets.proofs.form.counted.Statement.{statement}
 use Rattle.sheets.proofs.form.counted.Tie as tie
 

@@ -6,7 +6,7 @@ use borrow.Author.Tests.{not-true, not-false}
 use borrow.Author.Rules.{rules}
 use lib.ListN.{length, take, drop}
 use Rattle.sheets.specs.Bodies.{elements_fit}
-use Rattle.sheets.specs.ListFitsLaws.{fits_unlisted, fits_elsewhere, fits_past, fits_listed}
+use Rattle.sheets.proofs.ListFitsLaws.{fits_unlisted, fits_elsewhere, fits_past, fits_listed}
 use Rattle.sheets.proofs.form.list_fits.Statement.{statement}
 use Rattle.sheets.proofs.form.list_fits.Tie as tie
 

@@ -14,7 +14,7 @@ use Rattle.lists.specs.BelowLaws.{below_none, below_more, below_broken}
 use Rattle.sheets.specs.Bodies.{start_at, bodies_at}
 use Rattle.sheets.specs.Form.{list_fits_at, lists_fit}
 use Rattle.sheets.specs.BodiesLaws.{start_first, start_next}
-use Rattle.sheets.specs.ListFitsLaws.{fits_inside}
+use Rattle.sheets.proofs.ListFitsLaws.{fits_inside}
 use Rattle.sheets.proofs.form.lists_fit.Statement.{statement}
 use Rattle.sheets.proofs.form.lists_fit.Tie as tie
 

@@ -13,7 +13,7 @@ use Rattle.lists.specs.AndLaws.{and_first, and_skip}
 use Rattle.sheets.specs.Entries.{kind_of}
 use Rattle.sheets.specs.Spells.{shape_of}
 use Rattle.sheets.specs.Form.{subtrees, owed_at, owes, one_tree}
-use Rattle.sheets.specs.OwedLaws.{subtrees_most, owed_first, owed_next}
+use Rattle.sheets.proofs.OwedLaws.{subtrees_most, owed_first, owed_next}
 use Rattle.sheets.proofs.form.one_tree.Statement.{statement}
 use Rattle.sheets.proofs.form.one_tree.Tie as tie
 

@@ -5,7 +5,7 @@ use borrow.Author.Rules.{rules}
 use Rattle.error.specs.Answers.{number}
 use Rattle.attributes.specs.Table.{is_between}
 use Rattle.sheets.specs.Entries.{kind_of}
-use Rattle.sheets.specs.SuitingLaws.{entry_operator, entry_predicate}
+use Rattle.sheets.proofs.SuitingLaws.{entry_operator, entry_predicate}
 use Rattle.sheets.proofs.suiting.entry_answer.Statement.{statement}
 use Rattle.sheets.proofs.suiting.entry_answer.Tie as tie
 

@@ -4,7 +4,7 @@ use Rattle.lists.specs.Sets.{ascends}
 use Rattle.lists.specs.Tabulate.{tabulate}
 use Rattle.words.specs.Word.{word, signed_word}
 use Rattle.predicates.specs.Integers.{integers_of}
-use Rattle.predicates.specs.MeaningLaws.{literal_scale}
+use Rattle.predicates.proofs.MeaningLaws.{literal_scale}
 use native.Mathlib.Omega.{arith}
 use borrow.Author.Rules.{rules}
 use Rattle.trials.proofs.predicate_trials.says.Statement.{statement}

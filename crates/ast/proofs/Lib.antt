@@ -1,0 +1,5 @@
+pub mod FlatteningLaws
+pub mod PartsLaws
+pub mod RoomLaws
+pub mod SizeLaws
+pub mod Trials

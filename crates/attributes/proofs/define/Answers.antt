@@ -1,0 +1,63 @@
+-- `attributes::define` meets its contract: each way out is a case of the answer. At `within` the name is known to have 1 to 32
+-- bytes, at `free` the table to have room, and `good` says that the definition's array has 32 places. Assumes nothing.
+use mathlib.Core.Path.{sym, ap, ◌∙◌}
+use Prim.Native.Nat.{ℕ}
+use native.Mathlib.Omega.{arith}
+use borrow.Author.Rules.{rules, length_unmapped}
+use borrow.Author.Tests.{lt-ltb, le-ltb, not-true, not-false}
+use Rattle.lists.specs.AndLaws.{and_first, and_second, and_both}
+use Rattle.attributes.specs.Definitions.{name_of, added, outcome}
+use Rattle.attributes.specs.DefinitionsLaws.{outcome_limit, outcome_twice, outcome_done}
+use Rattle.attributes.proofs.NameLaws.{name_within, name_taken, name_short}
+use Rattle.attributes.proofs.define.Goals as goal
+
+pub returns-then-not-between : goal.returns-then-not-between
+returns-then-not-between c =
+    let a = c.args in
+    let long = sym c.between.ensures ∙ not-true _ c.if-not-between.true in
+    sym (outcome_limit a.table.now a.definition (and_first _ _ long))
+
+pub returns-then-len-ge-ATTRIBUTE_LIMIT : goal.returns-then-len-ge-ATTRIBUTE_LIMIT
+returns-then-len-ge-ATTRIBUTE_LIMIT c =
+    let a = c.args in
+    let full = rw c.len.ensures at c.if-len-ge-ATTRIBUTE_LIMIT.true in
+    sym (outcome_limit a.table.now a.definition (and_second _ _ (le-ltb _ _ full)))
+
+pub slice_bounds-whole-end : goal.slice_bounds-whole-end
+slice_bounds-whole-end c =
+    let within = c in
+    let d = within.args.definition in
+    let places = length_unmapped ℕ d.name 32 within.well_formed.1.0.1.1.0.1.0.1 in
+    let fits = sym within.between.ensures ∙ not-false _ within.if-not-between.false in
+    name_within d.name d.length places fits
+
+pub slice_bounds-name-end : goal.slice_bounds-name-end
+slice_bounds-name-end c =
+    let within = c in
+    let d = within.args.definition in
+    let places = length_unmapped ℕ d.name 32 within.well_formed.1.0.1.1.0.1.0.1 in
+    let fits = sym within.between.ensures ∙ not-false _ within.if-not-between.false in
+    name_taken d.name d.length places fits
+
+pub returns-in-At : goal.returns-in-At
+returns-in-At c =
+    let free = c in
+    let within = free in
+    let a = within.args in
+    let fits = sym within.between.ensures ∙ not-false _ within.if-not-between.false in
+    let room = rw free.len.ensures at free.if-len-ge-ATTRIBUTE_LIMIT.false in
+    let there = sym c.by_name.ensures ∙ c.enum_told-1.given.1 in
+    sym (outcome_twice a.table.now a.definition _ (and_both _ _ fits (lt-ltb _ _ room)) there)
+
+pub returns-in-Nothing : goal.returns-in-Nothing
+returns-in-Nothing c =
+    let free = c in
+    let within = free in
+    let a = within.args in
+    let fits = sym within.between.ensures ∙ not-false _ within.if-not-between.false in
+    let room = rw free.len.ensures at free.if-len-ge-ATTRIBUTE_LIMIT.false in
+    let new = sym c.by_name.ensures
+    ∙ c.enum_told-in-Nothing-1.given.1 in
+    let kind = ap (λ (k : ℕ). added a.table.now k (name_of a.definition)) c.kind_number_lem.ensures in
+    ap (outcome 0) (c.write_record.ensures ∙ kind)
+    ∙ sym (outcome_done a.table.now a.definition (and_both _ _ fits (lt-ltb _ _ room)) new)

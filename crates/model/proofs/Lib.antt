@@ -1,0 +1,14 @@
+pub mod BookLaws
+pub mod CostLaws
+pub mod DeleteLaws
+pub mod FoundLaws
+pub mod InsertLaws
+pub mod InternLaws
+pub mod KeptLaws
+pub mod MarksLaws
+pub mod MovedLaws
+pub mod PartsLaws
+pub mod PlanLaws
+pub mod SearchLaws
+pub mod SoundLaws
+pub mod Trials
