@@ -12,28 +12,24 @@ pub returns-then-not-between : goal.returns-then-not-between
 unfolding sound_attribute
 returns-then-not-between c =
     let kind = rw (c.wide.ensures ∙ c.by_id-kind.ensures) at c.between.ensures in
-    sym (and_first _ _ (and_first _ _ (sym kind ∙ not-true _ c.if-not-between.true)))
+    sym (and_first _ _ (and_first _ _ (sym kind ∙ c.if-not-between.true)))
 
 pub returns-then-not-between-2 : goal.returns-then-not-between-2
 unfolding sound_attribute
 returns-then-not-between-2 c =
     let long = rw c.length_of.ensures at c.between-2.ensures in
-    sym (and_first _ _ (and_second _ _ (sym long ∙ not-true _ c.if-not-between-2.true)))
+    sym (and_first _ _ (and_second _ _ (sym long ∙ c.if-not-between-2.true)))
 
 pub returns-in-At : goal.returns-in-At
 unfolding sound_attribute
 returns-in-At c =
-    let first = rw c.name_of.ensures at c.first_named.ensures in
-    sym (and_second _ _ (ap nowhere (sym first ∙ c.enum_told-1.given.1)))
+    let first = rw c.name_of.ensures at c.in-At.ensures in
+    sym (and_second _ _ (ap nowhere (sym first)))
 
 pub returns-in-Nothing : goal.returns-in-Nothing
 unfolding sound_attribute
 returns-in-Nothing c =
-    let sized = c in
-    let kinded = sized in
-    let read = kinded.wide.ensures ∙ kinded.by-id.ensures in
-    let kind = rw read at kinded.between.ensures in
-    let long = rw sized.length_of.ensures at sized.between-2.ensures in
-    let first = rw c.name_of.ensures at c.first_named.ensures in
-    sym (and_both _ _ (and_both _ _ (sym kind ∙ not-false _ kinded.if1.false) (sym long ∙ not-false _ sized.if-not-between-2.false))
-    (ap nowhere (sym first ∙ c.enum_told-in-Nothing-1.given.1)))
+    let kind = rw (c.wide.ensures ∙ c.by_id-kind.ensures) at c.between.ensures in
+    let long = rw c.length_of.ensures at c.between-2.ensures in
+    let first = rw c.name_of.ensures at c.in-Nothing.ensures in
+    sym (and_both _ _ (and_both _ _ (sym kind ∙ c.if-not-between.false) (sym long ∙ c.if-not-between-2.false)) (ap nowhere (sym first)))

@@ -3,6 +3,8 @@
 use mathlib.Core.Path.{sym, ap, ◌∙◌}
 use Prim.Native.Nat.{ℕ}
 use native.Mathlib.Omega.{arith}
+use lib.ListN.{length}
+use mathlib.Core.Path.{◌≡◌}
 use borrow.Author.Rules.{rules, length_unmapped}
 use borrow.Author.Tests.{lt-ltb, le-ltb, not-true, not-false}
 use Rattle.lists.specs.AndLaws.{and_first, and_second, and_both}
@@ -14,7 +16,7 @@ use Rattle.attributes.proofs.define.Goals as goal
 pub returns-then-not-between : goal.returns-then-not-between
 returns-then-not-between c =
     let a = c.args in
-    let long = sym c.between.ensures ∙ not-true _ c.if-not-between.true in
+    let long = sym c.between.ensures ∙ c.if-not-between.true in
     sym (outcome_limit a.table.now a.definition (and_first _ _ long))
 
 pub returns-then-len-ge-ATTRIBUTE_LIMIT : goal.returns-then-len-ge-ATTRIBUTE_LIMIT
@@ -25,39 +27,32 @@ returns-then-len-ge-ATTRIBUTE_LIMIT c =
 
 pub slice_bounds-whole-end : goal.slice_bounds-whole-end
 slice_bounds-whole-end c =
-    let within = c in
-    let d = within.args.definition in
-    let places = length_unmapped ℕ d.name 32 within.well_formed.1.0.1.1.0.1.0.1 in
-    let fits = sym within.between.ensures ∙ not-false _ within.if-not-between.false in
+    let d = c.args.definition in
+    let places : length d.name ≡ 32 = c.well_formed.1.0.1.1.0.1.0.1 in
+    let fits = sym c.between.ensures ∙ c.if-not-between.false in
     name_within d.name d.length places fits
 
 pub slice_bounds-name-end : goal.slice_bounds-name-end
 slice_bounds-name-end c =
-    let within = c in
-    let d = within.args.definition in
-    let places = length_unmapped ℕ d.name 32 within.well_formed.1.0.1.1.0.1.0.1 in
-    let fits = sym within.between.ensures ∙ not-false _ within.if-not-between.false in
+    let d = c.args.definition in
+    let places : length d.name ≡ 32 = c.well_formed.1.0.1.1.0.1.0.1 in
+    let fits = sym c.between.ensures ∙ c.if-not-between.false in
     name_taken d.name d.length places fits
 
 pub returns-in-At : goal.returns-in-At
 returns-in-At c =
-    let free = c in
-    let within = free in
-    let a = within.args in
-    let fits = sym within.between.ensures ∙ not-false _ within.if-not-between.false in
-    let room = rw free.len.ensures at free.if-len-ge-ATTRIBUTE_LIMIT.false in
-    let there = sym c.by_name.ensures ∙ c.enum_told-1.given.1 in
+    let a = c.args in
+    let fits = sym c.between.ensures ∙ c.if-not-between.false in
+    let room = rw c.len.ensures at c.if-len-ge-ATTRIBUTE_LIMIT.false in
+    let there = sym c.in-At.ensures in
     sym (outcome_twice a.table.now a.definition _ (and_both _ _ fits (lt-ltb _ _ room)) there)
 
 pub returns-in-Nothing : goal.returns-in-Nothing
 returns-in-Nothing c =
-    let free = c in
-    let within = free in
-    let a = within.args in
-    let fits = sym within.between.ensures ∙ not-false _ within.if-not-between.false in
-    let room = rw free.len.ensures at free.if-len-ge-ATTRIBUTE_LIMIT.false in
-    let new = sym c.by_name.ensures
-    ∙ c.enum_told-in-Nothing-1.given.1 in
-    let kind = ap (λ (k : ℕ). added a.table.now k (name_of a.definition)) c.kind_number_lem.ensures in
+    let a = c.args in
+    let fits = sym c.between.ensures ∙ c.if-not-between.false in
+    let room = rw c.len.ensures at c.if-len-ge-ATTRIBUTE_LIMIT.false in
+    let new = sym c.in-Nothing.ensures in
+    let kind = ap (λ (k : ℕ). added a.table.now k (name_of a.definition)) c.kind_number.ensures in
     ap (outcome 0) (c.write_record.ensures ∙ kind)
     ∙ sym (outcome_done a.table.now a.definition (and_both _ _ fits (lt-ltb _ _ room)) new)

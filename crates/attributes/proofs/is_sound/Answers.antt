@@ -25,12 +25,12 @@ loop-i-init c = (omega arith, omega arith, c.len-count.ensures, below_none _)
 
 pub returns-then-not-attribute_sound : goal.returns-then-not-attribute_sound
 unfolding sound_table
-returns-then-not-attribute_sound c = let sound = sym c.attribute_sound.ensures ∙ not-true _ c.if-not-attribute_sound.true in
+returns-then-not-attribute_sound c = let sound = sym c.attribute_sound.ensures ∙ c.if-not-attribute_sound.true in
     sym (and_second _ _ (below_broken _ c.loop-i.i _ (omega arith) sound))
 
 pub loop-i-preserved : goal.loop-i-preserved
 loop-i-preserved c = let h = c.loop-i.invariant in
-    let sound = sym c.attribute_sound.ensures ∙ not-false _ c.if-not-attribute_sound.false in
+    let sound = sym c.attribute_sound.ensures ∙ c.if-not-attribute_sound.false in
     (omega arith, h.1, h.2, below_more _ _ h.3 sound)
 
 pub returns : goal.returns
