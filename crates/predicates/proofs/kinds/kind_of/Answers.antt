@@ -91,4 +91,4 @@ pub returns-in_default : goal.returns-in_default
 unfolding kind_of kinds numbered
 returns-in_default c =
     let n = c.args.number in
-    sym ((skipped n (take 17 kinds) (drop 17 kinds) c.in_default-own.rest).1 ∙ either_way n (Null IsNotEmpty))
+    sym ((skipped n (take 17 kinds) (drop 17 kinds) c.in_default.in_default-own.rest).1 ∙ either_way n (Null IsNotEmpty))

@@ -28,7 +28,7 @@ returns-in-5 c = rw c.in-5.is
 pub returns-in_default : goal.returns-in_default
 unfolding literal_from
 returns-in_default c =
-    let rest = c.in_default-own.rest in
+    let rest = c.in_default.in_default-own.rest in
     rw (
       ne_eqb _ _ rest.0.0.0.0.1,
       ne_eqb _ _ rest.0.0.0.1,
