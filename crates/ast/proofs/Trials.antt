@@ -6,7 +6,8 @@ use Rattle.evaluation.specs.declared.Operator.TheVariants.{And, Or}
 use Rattle.lists.specs.Places.{sum}
 use Rattle.lists.specs.Counting.{dedup}
 use Rattle.predicates.specs.Kinds.{kind_of, numbered, kinds}
-use Rattle.predicates.specs.Predicate.{Predicate, predicate?}
+use Rattle.predicates.specs.Predicate.{Predicate}
+use Rattle.predicates.proofs.Deciding.{predicate?}
 use Rattle.ast.specs.Trees.{Join, Not, Value, Flat, leaf, node, trees}
 use Rattle.ast.specs.Flattening.{optimize}
 use Rattle.ast.specs.SameLaws.{same?}

@@ -17,7 +17,8 @@ use Rattle.evaluation.specs.Kleene.{truth_under}
 use Rattle.lists.specs.Places.{All, Any, Distinct}
 use Rattle.lists.proofs.PlacesLaws.{all_map, all_mapped, any_map, any_mapped}
 use Rattle.lists.specs.Counting.{Cover}
-use Rattle.predicates.specs.Predicate.{Predicate, predicate?, list_length}
+use Rattle.predicates.specs.Predicate.{Predicate, list_length}
+use Rattle.predicates.proofs.Deciding.{predicate?}
 use Rattle.ast.specs.Trees.{Tree, value, entries, Flat, flat_value}
 use Rattle.ast.specs.Flattening.{optimize}
 use Rattle.ast.proofs.FlatteningLaws.{optimize_value, flat_flattened}

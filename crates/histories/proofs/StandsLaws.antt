@@ -16,7 +16,8 @@ use Rattle.lists.proofs.PlacesLaws.{all_map, all_mapped, all_of, any_map, any_ma
 use Rattle.lists.specs.Counting.{Cover}
 use Rattle.lists.proofs.PigeonLaws.{distinct_length}
 use Rattle.lists.specs.Sift.{Marked, rank}
-use Rattle.predicates.specs.Predicate.{Predicate, predicate?, list_length}
+use Rattle.predicates.specs.Predicate.{Predicate, list_length}
+use Rattle.predicates.proofs.Deciding.{predicate?}
 use Rattle.ast.specs.Trees.{Flat}
 use Rattle.ast.specs.Flattening.{Flattened}
 use Rattle.ast.specs.Same.{Same}

@@ -6,7 +6,8 @@ use Rattle.std.proofs.lemmas.List.{length-map}
 use Rattle.lists.specs.Places.{none, Any, sum, pnil}
 use Rattle.lists.proofs.PlacesLaws.{all_map, all_mapped, any_map, any_mapped, get_or_all, sum_map}
 use Rattle.lists.specs.Counting.{Cover}
-use Rattle.predicates.specs.Predicate.{Predicate, predicate?, list_length}
+use Rattle.predicates.specs.Predicate.{Predicate, list_length}
+use Rattle.predicates.proofs.Deciding.{predicate?}
 use Rattle.ast.specs.Trees.{Flat, trees}
 use Rattle.ast.specs.TreesLaws.{kids_trees}
 use Rattle.ast.specs.Same.{Same}

@@ -15,7 +15,8 @@ use Rattle.lists.specs.Places.{both, Any, here, there}
 use Rattle.lists.proofs.PlacesLaws.{all_map, all_mapped, all_self, any_map, any_mapped, any_left, map_same, rest_length}
 use Rattle.lists.specs.Counting.{Cover}
 use Rattle.lists.proofs.SortLaws.{put_place_lem, put_all, put_new, put_old}
-use Rattle.predicates.specs.Predicate.{Predicate, predicate?, list_length}
+use Rattle.predicates.specs.Predicate.{Predicate, list_length}
+use Rattle.predicates.proofs.Deciding.{predicate?}
 use Rattle.ast.specs.Trees.{Flat}
 use Rattle.ast.specs.Flattening.{Flattened}
 use Rattle.ast.specs.Same.{Same}

@@ -7,7 +7,8 @@ use Rattle.std.proofs.Math.Decide.{ℕ_discrete}
 use Rattle.evaluation.specs.declared.Operator.{Operator}
 use Rattle.evaluation.specs.declared.Operator.TheVariants.{Or}
 use Rattle.lists.specs.Places.{All, Any, list?}
-use Rattle.predicates.specs.Predicate.{Predicate, predicate?, list_length}
+use Rattle.predicates.specs.Predicate.{Predicate, list_length}
+use Rattle.predicates.proofs.Deciding.{predicate?}
 use Rattle.ast.specs.Trees.{Flat, leaf, node, done, trees}
 use Rattle.ast.specs.OperatorLaws.{operator?}
 use Rattle.ast.specs.Parts.{level, size}

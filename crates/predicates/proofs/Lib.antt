@@ -1,3 +1,4 @@
 pub mod AmountLaws
 pub mod MeaningLaws
 pub mod Trials
+pub mod Deciding

@@ -24,10 +24,10 @@ list_length p = length p.elements
 abbrev pub predicate_cost : Predicate → ℕ
 predicate_cost p = cost_of (kind_of p.kind) (list_length p)
 
--- ---- equality is decided
+-- ---- what decides equality (the decision: `Deciding`)
 
 -- a decision of X is one of Y, where either follows from the other
-unfoldable decided : {X Y : Type 0} → (X → Y) → (Y → X) → Dec X → Dec Y
+unfoldable pub decided : {X Y : Type 0} → (X → Y) → (Y → X) → Dec X → Dec Y
 decided f g (yes x) = yes (f x)
 decided f g (no n) = no (λ y. n (g y))
 
@@ -39,19 +39,5 @@ integer? (negsuc m) (pos n) = no (λ e. pos-ne-negsuc n m (sym e))
 integer? (negsuc m) (negsuc n) = decided (ap negsuc) (λ e. cc) (ℕ_discrete m n)
 
 -- a predicate as one list of numbers, which determines it
-abbrev numbers_of : Predicate → List ℤ
+abbrev pub numbers_of : Predicate → List ℤ
 numbers_of p = pos p.attribute ∷ pos p.kind ∷ pos p.tag ∷ p.number ∷ pos p.scale ∷ p.elements
-
-determined : (p q : Predicate) → numbers_of p ≡ numbers_of q → p ≡ q
-determined p q e =
-    let a : p.attribute ≡ q.attribute = cc in
-    let k : p.kind ≡ q.kind = cc in
-    let t : p.tag ≡ q.tag = cc in
-    let n : p.number ≡ q.number = cc in
-    let s : p.scale ≡ q.scale = cc in
-    let l : p.elements ≡ q.elements = cc in
-    λ i. record { attribute = a i; kind = k i; tag = t i; number = n i; scale = s i; elements = l i }
-
-unfoldable pub predicate? : (p q : Predicate) → Dec (p ≡ q)
-unfolding list? integer? decided determined
-predicate? p q = decided (determined p q) (ap numbers_of) (list? integer? (numbers_of p) (numbers_of q))
