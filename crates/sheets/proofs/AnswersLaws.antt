@@ -9,6 +9,7 @@ use borrow.Author.Tests.{ltb-true, ltb-false, lt-ltb, le-ltb, leb-true, leb-fals
 use Rattle.std.proofs.Math.Dec.{ltb}
 use Rattle.std.specs.Int.Signed.{lt_z}
 use Rattle.error.specs.Answers.{Answer, Done, SheetMalformed, LimitPassed, number}
+use Rattle.error.specs.Answers.{NameTwice, NoAttribute, OtherKind, NotSuited, IdLive, IdNotLive, NoRoom, BookDamaged, BufferShort, EventUnsuited, NotSet}
 use Rattle.lists.specs.Below.{all_below}
 use Rattle.lists.specs.BelowLaws.{below_each, below_all, below_fault, below_broken}
 use Rattle.lists.specs.Sets.{list_limit}
@@ -126,6 +127,17 @@ module _ (first : ℕ) (s : List ℤ) where
   answered Done (good n a) =
       let short = below_all (list_short first s) n (λ i l. le-leb (list_length_at first s i) list_limit (a.short i l)) in
       counted_answer_lem n a.counted ∙ rw (told_formed first s n a.formed, short)
+  answered NameTwice a = elim a [ ]
+  answered NoAttribute a = elim a [ ]
+  answered OtherKind a = elim a [ ]
+  answered NotSuited a = elim a [ ]
+  answered IdLive a = elim a [ ]
+  answered IdNotLive a = elim a [ ]
+  answered NoRoom a = elim a [ ]
+  answered BookDamaged a = elim a [ ]
+  answered BufferShort a = elim a [ ]
+  answered EventUnsuited a = elim a [ ]
+  answered NotSet a = elim a [ ]
 
   -- ---- the answer 0
 
@@ -139,6 +151,17 @@ module _ (first : ℕ) (s : List ℤ) where
       go SheetMalformed (malformed n c w) e = absurd (omega arith)
       go LimitPassed (long n c w i l k) e = absurd (omega arith)
       go Done (good n a) e = subst (λ (m : ℕ). Accepted first s m) (sym (counted_count n a.counted)) a
+      go NameTwice a e = elim a [ ]
+      go NoAttribute a e = elim a [ ]
+      go OtherKind a e = elim a [ ]
+      go NotSuited a e = elim a [ ]
+      go IdLive a e = elim a [ ]
+      go IdNotLive a e = elim a [ ]
+      go NoRoom a e = elim a [ ]
+      go BookDamaged a e = elim a [ ]
+      go BufferShort a e = elim a [ ]
+      go EventUnsuited a e = elim a [ ]
+      go NotSet a e = elim a [ ]
 
   pub accepting : (n : ℕ) → Accepted first s n → answer_of first s ≡ 0
   accepting n a = ap number (answered Done (good n a))

@@ -9,58 +9,33 @@ use Rattle.attributes.specs.Table.{kind_at, count_of as attributesIn}
 use Rattle.predicates.specs.Kinds.{kind_of as kindNumbered}
 use Rattle.predicates.specs.Suits.{suits_of}
 use Rattle.sheets.specs.Suiting.{suit_answer}
-use Rattle.sheets.proofs.suiting.suit_answer.Statement.{statement}
-use Rattle.sheets.proofs.suiting.suit_answer.Tie as tie
+use Rattle.sheets.proofs.suiting.suit_answer.Goals as goal
 
-len-requires : tie.Need-len-requires
-len-requires c κs = search rules
-
-returns : tie.Need-returns
+pub returns-then-len-attribute : goal.returns-then-len-attribute
 unfolding suit_answer
-returns c =
-    let a = c.before.before.before.args in
+returns-then-len-attribute c =
+    let a = c.args in
     let t = a.table.now in
-    let n = c.before.len.ensures in
+    let n = c.len.ensures in
     let past : attributesIn t ≤ a.attribute = omega arith in
     rw (le-ltb a.attribute (attributesIn t) past)
 
-kind-of-requires : tie.Need-kind-of-requires
-kind-of-requires c κs = search rules
-
-by-id-requires : tie.Need-by-id-requires
-by-id-requires c κs = search rules
-
-suits-requires : tie.Need-suits-requires
-suits-requires c κs = search rules
-
-returns-2 : tie.Need-returns-2
+pub returns-then-suits : goal.returns-then-suits
 unfolding suit_answer
-returns-2 c =
-    let a = c.before.before.before.before.before.before.before.args in
+returns-then-suits c =
+    let a = c.args in
     let t = a.table.now in
-    let n = c.before.before.before.before.before.len.ensures in
+    let n = c.len.ensures in
     let known : a.attribute < attributesIn t = omega arith in
     let suits : suits_of (kindNumbered a.kind) a.tag (kind_at t a.attribute) ≡ true = cc in
     rw (lt-ltb a.attribute (attributesIn t) known, suits)
 
-returns-3 : tie.Need-returns-3
+pub returns : goal.returns
 unfolding suit_answer
-returns-3 c =
-    let a = c.before.before.before.before.before.before.before.args in
+returns c =
+    let a = c.args in
     let t = a.table.now in
-    let n = c.before.before.before.before.before.len.ensures in
+    let n = c.len.ensures in
     let known : a.attribute < attributesIn t = omega arith in
     let suits : suits_of (kindNumbered a.kind) a.tag (kind_at t a.attribute) ≡ false = cc in
     rw (lt-ltb a.attribute (attributesIn t) known, suits)
-
-pub suit_answer_spec : {M : Type 1} → statement M
-suit_answer_spec =
-    tie.close
-    (tie.spec
-    len-requires
-    returns
-    kind-of-requires
-    by-id-requires
-    suits-requires
-    returns-2
-    returns-3)

@@ -1,0 +1,8 @@
+-- `sheets::table::allowed_tag` meets its contract. Assumes nothing.
+use borrow.Author.Rules.{rules}
+use Rattle.sheets.specs.Table.{allowed}
+use Rattle.sheets.proofs.table.allowed_tag.Goals as goal
+
+pub returns : goal.returns
+unfolding allowed
+returns c = cc
