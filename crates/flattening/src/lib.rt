@@ -1,7 +1,7 @@
 // Flattening: the entries of a sheet become codes in postfix, with Not pushed to the predicates and nested equal operators joined.
 #![tactic(auto)]
 
-ghost use Rattle.std.specs.Prelude.{◌≡◌, ◌||◌, ◌<◌, ◌≤◌, eqb};
+ghost use Rattle.std.specs.Prelude.{length, ◌≡◌, ◌||◌, ◌<◌, ◌≤◌, eqb};
 ghost use Rattle.evaluation.specs.Kleene.{operator_under};
 ghost use Rattle.flattening.specs.Codes.{predicate_code, operator_code};
 ghost use Rattle.flattening.specs.Writing.{Ready, Flattens, Collects, Optimizes};
@@ -86,7 +86,7 @@ fn operator_code(operator: Operator, count: usize) -> u16
 // The tree at entry i, flattened: Not turns what is under it, an operator stands after what it collects.
 #[cycle(collect_flatten)]
 fn flatten(s: &[i64], first: usize, i: usize, negate: bool, out: &mut [u16], at: usize) -> Written
-    requires* { do ⌜ Ready first s.now i at (← ⟦out.len()⟧) ⌝ }
+    requires { Ready first s.now i at (length out.old) }
     ensures { Flattens first s.now i negate at out.old out.new result }
 {
     let kind = sheets::number(s, first + 5 * i);
@@ -129,7 +129,7 @@ fn collect(
     out: &mut [u16],
     at: usize,
 ) -> Written
-    requires* { do ⌜ Ready first s.now i at (← ⟦out.len()⟧) ⌝ }
+    requires { Ready first s.now i at (length out.old) }
     ensures { Collects parent first s.now i negate at out.old out.new result }
 {
     let kind = sheets::number(s, first + 5 * i);
