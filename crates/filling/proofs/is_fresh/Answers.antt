@@ -1,7 +1,6 @@
 -- `filling::is_fresh` meets its contract. Assumes nothing.
 use mathlib.Core.Path.{sym}
 use Rattle.filling.proofs.AgesLaws.{fresh_ahead, fresh_past}
-use borrow.Author.Rules.{rules}
 use Rattle.filling.proofs.is_fresh.Goals as goal
 
 pub returns-then-present-stamp : goal.returns-then-present-stamp

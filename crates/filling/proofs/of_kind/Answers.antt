@@ -2,7 +2,6 @@
 use mathlib.Core.Path.{sym, ◌∙◌}
 use borrow.Author.Tests.{eq-eqb, ne_eqb}
 use Rattle.filling.specs.Readings.{of_kind}
-use borrow.Author.Rules.{rules}
 use Rattle.filling.proofs.of_kind.Goals as goal
 
 pub returns-then-number-eq-UNDEFINED : goal.returns-then-number-eq-UNDEFINED

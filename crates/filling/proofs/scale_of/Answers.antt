@@ -3,7 +3,6 @@ use native.Mathlib.Omega.{arith}
 use mir.Facts.{to_z-of_z}
 use Rattle.decimals.specs.Decimals.{scale_limit}
 use Rattle.events.specs.ValuesLaws.{up_to}
-use borrow.Author.Rules.{rules}
 use Rattle.filling.proofs.scale_of.Goals as goal
 
 pub overflow_cast-result : goal.overflow_cast-result
