@@ -16,7 +16,7 @@ use Rattle.events.specs.Suits.{suits_at, suits_of}
 use Rattle.events.proofs.suits_lent.Given as goal
 
 abbrev pub invariant-loop-i : goal.invariant-loop-i
-invariant-loop-i l =     (l.i ≤ l.count) × (l.count ≤ attribute_limit) × (l.count ≡ count_of l.table)
+invariant-loop-i l = (l.i ≤ l.count) × (l.count ≤ attribute_limit) × (l.count ≡ count_of l.table)
     × (all_below (suits_at l.table (event_of l.count l.kinds l.numbers l.scales l.lengths l.lists)) l.i ≡ true)
 
 abbrev pub decreases-loop-i : goal.decreases-loop-i
