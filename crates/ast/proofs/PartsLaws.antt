@@ -14,7 +14,7 @@ use Rattle.lists.proofs.CountingLaws.{cover_right}
 use Rattle.ast.specs.Trees.{Flat, leaf, node, Flats, done, more, kids}
 use Rattle.ast.specs.TreesLaws.{flat_ind, fold_node}
 use Rattle.ast.specs.Same.{Same}
-use Rattle.ast.specs.SameLaws.{same_node, fold_same}
+use Rattle.ast.proofs.SameLaws.{same_node, fold_same}
 use Rattle.ast.specs.Parts.{subexpressions, subexpressions_under, subexpressions_of, greatest, total}
 use Rattle.ast.specs.Parts.{level_over, level, join_cost, cost_over, cost, size_over, size}
 

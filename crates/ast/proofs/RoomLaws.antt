@@ -12,8 +12,8 @@ use Rattle.lists.specs.Counting.{Cover}
 use Rattle.lists.proofs.CountingLaws.{cover_refl, cover_trans, cover_right, cover_append}
 use Rattle.lists.proofs.CountingLaws.{sum_le, dedup_distinct, dedup_all, dedup_only, counting}
 use Rattle.ast.specs.Trees.{Flat, leaf, node}
-use Rattle.ast.specs.Same.{Same}
-use Rattle.ast.specs.SameLaws.{same_node, same_equivalence, same?}
+use Rattle.ast.specs.Same.{Same, same?}
+use Rattle.ast.proofs.SameLaws.{same_node, same_equivalence}
 use Rattle.ast.specs.Parts.{subexpressions, subexpressions_of}
 use Rattle.ast.proofs.PartsLaws.{rules_covered}
 use Rattle.ast.specs.Room.{Counts, places_of, elements_of, parts_of, counts_over, counts_of, Within, together}

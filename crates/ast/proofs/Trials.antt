@@ -10,7 +10,7 @@ use Rattle.predicates.specs.Predicate.{Predicate}
 use Rattle.predicates.proofs.Deciding.{predicate?}
 use Rattle.ast.specs.Trees.{Join, Not, Value, Flat, leaf, node, trees}
 use Rattle.ast.specs.Flattening.{optimize}
-use Rattle.ast.specs.SameLaws.{same?}
+use Rattle.ast.specs.Same.{same?}
 use Rattle.ast.specs.Parts.{level}
 use Rattle.ast.specs.Rules.{rule_cost, room_of}
 

@@ -3,7 +3,6 @@ pub mod TreesLaws
 pub mod OperatorLaws
 pub mod Flattening
 pub mod Same
-pub mod SameLaws
 pub mod Parts
 pub mod Room
 pub mod Rules

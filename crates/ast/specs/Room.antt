@@ -5,7 +5,7 @@ use Rattle.std.specs.Prelude.{◌≡◌, List, ℕ, ◌+◌, ◌≤◌, length}
 use Rattle.lists.specs.Places.{sum}
 use Rattle.lists.specs.Counting.{dedup}
 use Rattle.ast.specs.Trees.{Flat, leaf, node, kids}
-use Rattle.ast.specs.SameLaws.{same?}
+use Rattle.ast.specs.Same.{same?}
 use Rattle.ast.specs.Parts.{subexpressions_of}
 
 pub record Counts : Type 0 where

@@ -1,3 +1,2 @@
-// The meaning of rules as trees: the crate is its specs.
+// The meaning of rules as trees: the crate is its definitions, in specs/, and their laws, in specs/ and proofs/.
 #![tactic(auto)]
-

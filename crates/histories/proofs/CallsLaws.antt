@@ -1,9 +1,9 @@
 -- Laws of answers and of calls one after the other.
---   then-both, then-refused    checks one after the other: Done where each is, else the first refusal
---   unless-done, -refused      what a call leaves
---   within-iff                 the test of the room counts is `Within`
---   Follows                    a machine answers as another does, from states that stand for one another: then it tells the same
---   run-alike, end-alike       in a run, and ends so
+--   then_both, then_refused       checks one after the other: Done where each is, else the first refusal
+--   unless_done, unless_refused   what a call leaves
+--   within_iff                    the test of the room counts is `Within`
+--   Follows                       a machine answers as another does, from states that stand for one another: then it tells the same
+--   run_alike, end_alike          in a run, and ends so
 -- Assumes nothing.
 use Rattle.std.specs.Prelude.{◌≡◌, refl, ◌↔◌, Bool, true, false, List, [], ◌∷◌, leb}
 use Rattle.std.proofs.Common.{ap, ap₂, sym, ◌∙◌, subst, arith, leb-true, le-leb, ne_eqb}

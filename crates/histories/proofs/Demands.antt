@@ -1,12 +1,12 @@
 -- The demands, over histories of calls on a fresh book. A sheet s spells the tree `original s`, of predicates P; the book keeps it
 -- flattened, `lit` being a predicate as it is kept, negated or not. Of sheets it is assumed that one without fault has at most `longest`
 -- entries, and of an event, where it matters, that a negated predicate is worth Kleene's Not of the predicate.
---   demand-2          after any calls, a search gives the report of the live rules' original trees; `report_one` says there is one only
---   demand-3          two merges of the owners' calls, in neither of which anything is refused for room, tell each owner the same, call by
+--   demand_2          after any calls, a search gives the report of the live rules' original trees; `report_one` says there is one only
+--   demand_3          two merges of the owners' calls, in neither of which anything is refused for room, tell each owner the same, call by
 --                     call, and end with the same report on every event and the same room counts
---   counts-of-live    the counts follow from the live rules only
---   room-exactly      an insert with no other fault is refused for room exactly where a count with it would pass its limit
---   always-sound      every book that is reached is sound
+--   counts_of_live    the counts follow from the live rules only
+--   room_exactly      an insert with no other fault is refused for room exactly where a count with it would pass its limit
+--   always_sound      every book that is reached is sound
 use Rattle.std.specs.Prelude.{◌≡◌, ◌↔◌, Bool, List, [], ◌∷◌, ℕ, ◌≤◌, length}
 use Rattle.std.proofs.Common.{ap, sym, ◌∙◌, subst, le_trans, arith}
 use Rattle.std.proofs.Math.Option.{none}

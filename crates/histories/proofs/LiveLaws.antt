@@ -2,14 +2,13 @@
 -- Assumes nothing.
 use Rattle.std.specs.Prelude.{◌≡◌, refl, Bool, List, [], ◌∷◌, ℕ}
 use Rattle.std.proofs.Common.{sym, ◌∙◌}
-use Rattle.error.specs.Answers.{Answer, Done}
-use Rattle.lists.specs.Places.{All, Any, pcons, Distinct}
+use Rattle.error.specs.Answers.{Answer}
+use Rattle.lists.specs.Places.{All, Any, Distinct}
 use Rattle.lists.proofs.PlacesLaws.{all_map}
 use Rattle.model.specs.Rules.{Rule, lookup}
-use Rattle.model.specs.RulesLaws.{SameId, lookup_none, lookup_some, lookup_each, without_pairwise}
-use Rattle.histories.specs.Calls.{Act, insert, delete, Call, answer_of, next, run, end}
-use Rattle.histories.proofs.CallsLaws.{insert_done}
-use Rattle.histories.specs.Live.{live_change, live_after, lives}
+use Rattle.model.specs.RulesLaws.{SameId, lookup_some, lookup_each}
+use Rattle.histories.specs.Calls.{Call, next, run, end}
+use Rattle.histories.specs.Live.{live_after, lives}
 
 module _ {S : Type 0} (refuses : S → Answer) (room : List (Rule S) → S → Bool) where
   -- what a run ends with is what its answers tell

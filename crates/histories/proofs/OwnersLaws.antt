@@ -4,7 +4,6 @@
 use Rattle.std.specs.Prelude.{◌≡◌, Bool, true, false, cond, eqb}
 use Rattle.std.proofs.Math.Path.{refl, ap₂}
 use Rattle.std.proofs.Common.{ap, sym, ◌∙◌, subst}
-use Rattle.std.proofs.Math.Option
 use Rattle.std.proofs.Math.Option.{Option, some}
 use mathlib.Core.List.{List, [], ◌∷◌}
 use Prim.Native.Nat.{ℕ}
@@ -149,6 +148,7 @@ owner_of (c ∷ l) i = whether (ℕ_discrete c.id i) c.owner (owner_of l i)
 owner_of_lem : {S : Type 0} (c : Call S) (l : List (Call S)) → All (λ d. d.id ≡ c.id → d.owner ≡ c.owner) l → Any (λ d. c ≡ d) l
     → owner_of l c.id ≡ c.owner
 unfolding owner_of
+owner_of_lem {S} c [] h a = elim a [ ]
 owner_of_lem {S} c (d ∷ l) (both h k) a = go (ℕ_discrete d.id c.id) a (λ b. owner_of_lem c l k b)
   where
     go : (x : Dec (d.id ≡ c.id)) → Any (λ d. c ≡ d) (d ∷ l) → (Any (λ d. c ≡ d) l → owner_of l c.id ≡ c.owner)

@@ -11,7 +11,7 @@ use Rattle.lists.specs.OrderLaws.{number_strict}
 use Rattle.lists.proofs.AscendingLaws.{ascending_equal}
 use Rattle.predicates.specs.Predicate.{Predicate}
 use Rattle.ast.specs.Trees.{Flat, flat_value}
-use Rattle.ast.specs.SameLaws.{same_value}
+use Rattle.ast.proofs.SameLaws.{same_value}
 use Rattle.model.specs.Parts.{flat_at}
 use Rattle.model.specs.Rules.{Rule, moved}
 use Rattle.model.specs.Book.{Book, tree_of}

@@ -1,8 +1,8 @@
 -- What a history of calls on a fresh book gives. A sheet without fault spells a flattened rule of at most `longest` entries (`Fit`): that
 -- is all that is assumed of sheets.
---   answers-live    the book answers as the live rules alone do
+--   answers_live    the book answers as the live rules alone do
 --   reached         the book that is reached is sound and stands for the live rules that the answers tell
---   reached-counts  its counts are the room counts of these and of nothing else
+--   reached_counts  its counts are the room counts of these and of nothing else
 --   no_room         an insert with no other fault is refused for room exactly where a room count with it passes its limit
 -- Assumes nothing else.
 use Rattle.std.specs.Prelude.{◌≡◌, refl, ◌↔◌, Bool, true, false, List, [], ◌∷◌, ℕ, ◌≤◌}

@@ -1,13 +1,13 @@
 -- Laws of books that stand for the live rules of a history.
---   fresh-stands         a fresh book stands for none
---   forth, back          each rule of the one has its like in the other, under the same id
---   same-counts          the counts that the book keeps are the room counts of the live rules
---   books-stand          calls keep a book standing for the live rules, and both answer alike
+--   fresh_stands                      a fresh book stands for none
+--   forth, back                       each rule of the one has its like in the other, under the same id
+--   same_counts                       the counts that the book keeps are the room counts of the live rules
+--   both_or_none                      under an id there is a rule in both or in neither, so both answer alike
+--   inserted_stands, deleted_stands   an insert and a delete keep a book standing for the live rules
 -- Assumes nothing.
 use Rattle.std.specs.Prelude.{◌≡◌, Bool, List, [], ◌∷◌, map, ℕ, ◌≤◌, ◌<◌, length}
 use Rattle.std.proofs.Math.Path.{refl, subst}
 use Rattle.std.proofs.Common.{ap, sym, ◌∙◌, arith}
-use Rattle.std.proofs.Math.Option
 use Rattle.std.proofs.Math.Option.{Option, some}
 use Rattle.std.proofs.Math.Decide.{ℕ_discrete}
 use Rattle.std.proofs.lemmas.List.{length-map}

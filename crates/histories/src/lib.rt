@@ -1,3 +1,2 @@
-// Histories of calls on a book, and what is promised of them: the crate is its specs.
+// Histories of calls on a book, in specs/, and what is promised of them, in proofs/.
 #![tactic(auto)]
-

@@ -8,7 +8,7 @@ use Rattle.lists.proofs.PlacesLaws.{all_map, all_mapped, any_map, any_mapped, ge
 use Rattle.lists.specs.Counting.{Cover}
 use Rattle.predicates.specs.Predicate.{Predicate, list_length}
 use Rattle.predicates.proofs.Deciding.{predicate?}
-use Rattle.ast.specs.Trees.{Flat, trees}
+use Rattle.ast.specs.Trees.{Flat}
 use Rattle.ast.specs.TreesLaws.{kids_trees}
 use Rattle.ast.specs.Same.{Same}
 use Rattle.ast.specs.Parts.{subexpressions, subexpressions_of}

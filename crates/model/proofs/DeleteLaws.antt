@@ -1,8 +1,8 @@
 -- Laws of a delete from a sound book.
---   deleted-sound   the book is sound again
---   deleted-tree    each rule that stays means what it meant, by its root's new number
---   deleted-live    the live trees are those of the rules that stay, in their order
---   deleted-counts  so the counts are theirs
+--   deleted_sound   the book is sound again
+--   deleted_tree    each rule that stays means what it meant, by its root's new number
+--   deleted_live    the live trees are those of the rules that stay, in their order
+--   deleted_counts  so the counts are theirs
 -- Assumes nothing.
 use Rattle.std.specs.Prelude.{◌≡◌, ◌⊎◌, Bool, ℕ, ◌<◌, length}
 use Rattle.std.proofs.Common.{ap, ◌∙◌, inl, inr}

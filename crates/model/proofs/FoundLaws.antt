@@ -17,7 +17,7 @@ use Rattle.ast.specs.Trees.{Flat, leaf, node, Flats, done, more, kids, trees}
 use Rattle.ast.specs.TreesLaws.{kids_trees}
 use Rattle.ast.specs.Flattening.{Flattened, FlattenedUnder}
 use Rattle.ast.specs.Same.{Same}
-use Rattle.ast.specs.SameLaws.{same_equivalence, same_node}
+use Rattle.ast.proofs.SameLaws.{same_equivalence, same_node}
 use Rattle.ast.specs.Parts.{size}
 use Rattle.model.specs.Parts.{Part, alone, over, part?, part_at, flat_of, meanings, flat_at, Below}
 use Rattle.model.proofs.PartsLaws.{flat_at_append, flat_at_new, flat_at_part, flat_at_place, part_below}

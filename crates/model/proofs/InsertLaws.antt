@@ -1,7 +1,7 @@
 -- Laws of an insert of a flattened rule that is not too large, under an id that is not live, into a sound book.
---   inserted-sound    the book is sound again
---   inserted-tree     each rule that was live means what it meant
---   inserted-counts   the counts are those of the live rules and the new one
+--   inserted_sound    the book is sound again
+--   inserted_tree     each rule that was live means what it meant
+--   inserted_counts   the counts are those of the live rules and the new one
 -- Assumes nothing.
 use Rattle.std.specs.Prelude.{◌≡◌, ◌⊎◌}
 use Rattle.std.proofs.Math.Path.{ap, sym}

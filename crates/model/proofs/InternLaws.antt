@@ -1,6 +1,6 @@
 -- Laws of interning.
---   intern-new      it only appends: the parts after it are those before and `new_parts`; this holds of any parts
---   intern-right    over sound parts, a flattened rule that is not too large leaves sound parts, and the number handed back means the rule;
+--   intern_new      it only appends: the parts after it are those before and `new_parts`; this holds of any parts
+--   intern_right    over sound parts, a flattened rule that is not too large leaves sound parts, and the number handed back means the rule;
 --                   each new part is that number or a child of a part
 -- Assumes nothing.
 use Rattle.std.specs.Prelude.{◌≡◌, refl, ◌⊎◌, List, [], ◌∷◌, ◌++◌, map, ℕ, zero, ◌≤◌, ◌<◌, length, drop}
@@ -26,7 +26,7 @@ use Rattle.ast.specs.Trees.{Flat, leaf, node, Flats, done, more, kids, trees}
 use Rattle.ast.specs.TreesLaws.{kids_trees}
 use Rattle.ast.specs.Flattening.{Unlike, Flattened, FlattenedUnder}
 use Rattle.ast.specs.Same.{Same}
-use Rattle.ast.specs.SameLaws.{same_equivalence, same_node}
+use Rattle.ast.proofs.SameLaws.{same_equivalence, same_node}
 use Rattle.ast.specs.Parts.{size}
 use Rattle.ast.proofs.PartsLaws.{size_same, size_node}
 use Rattle.ast.specs.Rules.{rule_cost}

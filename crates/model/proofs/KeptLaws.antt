@@ -1,7 +1,7 @@
 -- Laws of the parts that are kept, where the children of marked parts are marked.
---   kept-meanings   the kept parts mean what they meant
---   kept-number     and each by its new number
---   kept-sound      they are sound
+--   kept_meanings   the kept parts mean what they meant
+--   kept_number     and each by its new number
+--   kept_sound      they are sound
 -- Assumes nothing.
 use Rattle.std.specs.Prelude.{◌≡◌, refl, Bool, List, [], map, ℕ, zero, ◌≤◌, ◌<◌, length}
 use Rattle.std.proofs.Common.{ap, sym, ◌∙◌, subst, zero-add, arith}

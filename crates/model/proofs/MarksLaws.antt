@@ -1,8 +1,8 @@
 -- Laws of the marking pass.
---   roots-marked      the roots are marked
---   children-marked   the children of a marked part are marked
---   marked-why        what is marked is a root or a child of a marked part
---   mark-last, mark-step   the pass by number
+--   roots_marked      the roots are marked
+--   children_marked   the children of a marked part are marked
+--   marked_why        what is marked is a root or a child of a marked part
+--   mark_last, mark_step   the pass by number
 -- Assumes nothing.
 use Rattle.std.specs.Prelude.{◌≡◌, refl, ◌⊎◌, Bool, true, false, List, [], ◌∷◌, ℕ, zero, suc, ◌+◌, ◌≤◌, ◌<◌, length, get_or, set, drop, replicate}
 use Rattle.std.proofs.Common.{ap, sym, ◌∙◌, subst, inl, inr, lt_of_lt_of_le, zero-add, arith, length-set, get_or-set_same, get_or-set_other, drop-cons}

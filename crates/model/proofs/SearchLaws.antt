@@ -1,7 +1,7 @@
 -- Laws of search.
---   value-over          an And or Or is worth the join of what its children are worth
---   reported-iff        an id is reported exactly where a rule of that id is true
---   reported-ascends    a report ascends where the ids do
+--   value_over          an And or Or is worth the join of what its children are worth
+--   reported_iff        an id is reported exactly where a rule of that id is true
+--   reported_ascends    a report ascends where the ids do
 -- Assumes nothing.
 use Rattle.std.specs.Prelude.{◌≡◌, refl, ◌⊎◌, ◌↔◌, List, [], ◌∷◌, map, ℕ, ◌<◌}
 use Rattle.std.proofs.Common.{inl, inr, arith}

@@ -1,9 +1,9 @@
 -- What the marks of a sound book's parts give.
---   number-once          parts that mean the same are one: no two numbers have the same meaning
---   meanings-distinct    the same, of the list of meanings
---   meanings-flattened   each part means a flattened rule, so its level is at most half of one more than the greatest size (`level_most`)
---   subexpressions-in    each subexpression of a part is a part
---   parts-used           where each part is a root or a child, each is a subexpression of a live rule
+--   number_once          parts that mean the same are one: no two numbers have the same meaning
+--   meanings_distinct    the same, of the list of meanings
+--   meanings_flattened   each part means a flattened rule, so its level is at most half of one more than the greatest size (`level_most`)
+--   subexpressions_in    each subexpression of a part is a part
+--   parts_used           where each part is a root or a child, each is a subexpression of a live rule
 -- Assumes nothing.
 use Rattle.std.specs.Prelude.{◌≡◌, refl, ◌⊎◌, ℕ, zero, suc, ◌+◌, ◌*◌, ◌≤◌, ◌<◌, length}
 use Rattle.std.proofs.Math.Path.{ap, ap₂}
@@ -23,7 +23,7 @@ use Rattle.ast.specs.Trees.{Flat, leaf, node, Flats, kids, trees}
 use Rattle.ast.specs.TreesLaws.{flat_ind, kids_trees}
 use Rattle.ast.specs.Flattening.{Unlike, Flattened, FlattenedUnder}
 use Rattle.ast.specs.Same.{Same}
-use Rattle.ast.specs.SameLaws.{same_equivalence, same_trees}
+use Rattle.ast.proofs.SameLaws.{same_equivalence, same_trees}
 use Rattle.ast.specs.Parts.{subexpressions, subexpressions_under, subexpressions_of}
 use Rattle.ast.proofs.PartsLaws.{under_kids, all_flat_map, any_flat_map}
 use Rattle.ast.proofs.SizeLaws.{level_size}

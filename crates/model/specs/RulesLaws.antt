@@ -3,7 +3,6 @@
 use Rattle.std.proofs.Math.Path.{◌≡◌, refl, ap, sym}
 use Rattle.std.proofs.Common.{◌∙◌, subst, arith, ltb-true, ltb-false, lt-ltb, le-ltb}
 use Rattle.std.specs.Prelude.{Bool, true, false, ltb, length, get_or}
-use Rattle.std.proofs.Math.Option
 use Rattle.std.proofs.Math.Option.{Option, some}
 use mathlib.Core.List.{List, [], ◌∷◌, ◌++◌, map}
 use Prim.Native.Nat.{ℕ, zero, suc, ◌≤◌, ◌<◌}

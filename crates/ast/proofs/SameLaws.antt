@@ -1,5 +1,5 @@
--- Laws of `Same`: it is an equivalence, it is decided by comparing, and a fold that ignores the order of children, such as Kleene's value,
--- gives the same of the same rules. Assumes nothing.
+-- Laws of `Same`: it is an equivalence, and a fold that ignores the order of children, such as Kleene's value, gives the same of the same
+-- rules. Assumes nothing.
 use Rattle.std.specs.Prelude.{◌≡◌, ◌↔◌}
 use Rattle.std.proofs.Math.Path.{refl, ap, sym, subst}
 use Rattle.std.proofs.Common.{ap₂, ◌∙◌, subst₂}
@@ -12,10 +12,9 @@ use Rattle.lists.specs.Places.{All, none, both, Any, here, there, at, rest}
 use Rattle.lists.proofs.PlacesLaws.{holds, any_at, rest_at}
 use Rattle.lists.specs.Equivalence.{Equivalence}
 use Rattle.lists.specs.Bag.{Bag, bnil, bcons}
-use Rattle.lists.proofs.BagLaws.{bag_refl, bag_sym, bag_trans, bag?, bag_map}
+use Rattle.lists.proofs.BagLaws.{bag_refl, bag_sym, bag_trans, bag_map}
 use Rattle.ast.specs.Trees.{Flat, leaf, node, Flats, done, more, kids, trees, fold, flat_value}
 use Rattle.ast.specs.TreesLaws.{flat_ind, kids_trees, fold_node}
-use Rattle.ast.specs.OperatorLaws.{operator?}
 use Rattle.ast.specs.Same.{Same, SameBag}
 
 -- ---- the children of the same nodes are a bag
@@ -77,25 +76,6 @@ module _ {Q : Type 0} where
 
   pub same_equivalence : Equivalence (Same {Q = Q})
   same_equivalence = record { reflexive = same_refl; symmetric = same_sym; transitive = same_trans }
-
--- ---- decided
-
-unfoldable pub same? : {Q : Type 0} → ((p q : Q) → Dec (p ≡ q)) → (f g : Flat Q) → Dec (Same f g)
-unfolding Same flat_ind bag? operator? to_bag of_bag
-same? {Q = Q} equal? = flat_ind (λ f. (g : Flat Q) → Dec (Same f g)) at_leaf at_node
-  where
-    at_leaf : (p : Q) (g : Flat Q) → Dec (Same (leaf p) g)
-    at_leaf p (leaf q) = equal? p q
-    at_leaf p (node o gs) = no (λ e. e)
-
-    at_node : (o : Operator) (fs : Flats Q) → All (λ f. (g : Flat Q) → Dec (Same f g)) (kids fs) → (g : Flat Q) → Dec (Same (node o fs) g)
-    at_node o fs h (leaf q) = no (λ e. e)
-    at_node o fs h (node o' gs) = go (operator? o o') (bag? same_equivalence h (kids gs))
-      where
-        go : Dec (o ≡ o') → Dec (Bag Same (kids fs) (kids gs)) → Dec (Same (node o fs) (node o' gs))
-        go (yes e) (yes b) = yes (e, of_bag fs b)
-        go (yes e) (no n) = no (λ s. n (to_bag fs s.1))
-        go (no n) b = no (λ s. n s.0)
 
 -- ---- what ignores the order of children
 
