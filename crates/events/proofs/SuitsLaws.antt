@@ -150,3 +150,6 @@ module _ (t : List ℕ) (e : Event) where
 
   pub suits_iff : (suits_of t e ≡ true) ↔ Suits t e
   suits_iff = (suits_means, means_suits)
+
+-- the cases of `place_suits`, one for each way out
+pub ruleset place_cases = (place_undefined, place_other, place_list, place_range)

@@ -186,7 +186,7 @@ fn list_suits(kind: u8, length: usize, list: &[i64]) -> bool
 }
 
 // Does a value suit an attribute whose kind has the number `own`?
-#[tactic(auto, using(crate::proofs::SuitsLaws::place_undefined, crate::proofs::SuitsLaws::place_other, crate::proofs::SuitsLaws::place_list, crate::proofs::SuitsLaws::place_range))]
+#[tactic(auto, using(crate::proofs::SuitsLaws::place_cases))]
 fn place_suits(own: u8, kind: u8, number: i64, scale: u8, length: usize, list: &[i64]) -> bool
     ensures { result ≡ place_suits own kind number scale length list.now }
 {
