@@ -1,0 +1,17 @@
+-- `changes::append_join` meets its contract. Assumes nothing.
+use Rattle.changes.proofs.WritingLaws.{join_put}
+use borrow.Author.Rules.{rules}
+use Rattle.changes.proofs.append_join.Goals as goal
+
+pub returns : goal.returns
+returns c =
+    let far = c in
+    let a = far.args in
+    join_put a.limits a.bytes.now a.content
+    far.part_count-part.ensures
+    far.place_count-places.ensures
+    far.element_count-elements.ensures
+    a.children.now
+    c.write_children.ensures
+    c.place.ensures
+    c.close.ensures

@@ -1,0 +1,17 @@
+-- `changes::write_children` meets its contract. Assumes nothing.
+use mathlib.Core.Path.{◌≡◌, refl, ap, ◌∙◌}
+use Prim.Native.Nat.{◌+◌, ◌*◌, ◌-◌, ◌≤◌}
+use native.Mathlib.Omega.{arith}
+use lib.ListN.{length, get_or}
+use Rattle.words.specs.Run.{wrote}
+use Rattle.words.proofs.RunLaws.{wrote_more}
+use Rattle.store.specs.Layout.{places_at}
+use Rattle.changes.specs.Changes.{put_children}
+use borrow.Author.Rules.{rules}
+use Rattle.changes.proofs.write_children.Given as goal
+
+abbrev pub invariant-loop-k : goal.invariant-loop-k
+invariant-loop-k l = (l.bytes ≡ put_children l.limits l.initial.bytes l.at l.children l.k) × (length l.bytes ≡ length l.initial.bytes) × (l.k ≤ length l.children)
+
+abbrev pub decreases-loop-k : goal.decreases-loop-k
+decreases-loop-k l = length l.children - l.k
