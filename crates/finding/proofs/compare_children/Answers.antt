@@ -1,0 +1,29 @@
+-- `finding::compare_children` meets its contract. The loop's invariant: the items passed are the same, so the rest decides.
+-- Assumes nothing.
+use Rattle.finding.proofs.ItemLaws.{Agree, run_small, items_less, items_greater, items_equal, children_table}
+use Prim.Native.Nat.{◌+◌, ◌-◌, ◌≤◌}
+use native.Mathlib.Omega.{arith}
+use borrow.Author.Count.{below_more}
+use lib.ListN.{length, get_or}
+use Rattle.finding.specs.Keys.{item_at}
+use Rattle.finding.proofs.compare_children.Goals as goal
+
+pub returns-then-x-y : goal.returns-then-x-y
+returns-then-x-y c =
+    let args = c.args in
+    let loop = c.loop-i in
+    let loop-test = c.loop-i-test in
+    items_less (children_table args.children.now) loop.i loop.invariant.1 loop-test.true (omega arith)
+
+pub returns-then-y-x : goal.returns-then-y-x
+returns-then-y-x c =
+    let args = c.args in
+    let loop = c.loop-i in
+    let loop-test = c.loop-i-test in
+    items_greater (children_table args.children.now) loop.i loop.invariant.1 loop-test.true (omega arith)
+
+pub returns : goal.returns
+returns c =
+    let args = c.args in
+    let loop = c.loop-i in
+    items_equal (children_table args.children.now) loop.i loop.invariant.1 c.loop-i-test.false

@@ -1,0 +1,15 @@
+-- `finding::compare_children` meets its contract. The loop's invariant: the items passed are the same, so the rest decides.
+-- Assumes nothing.
+use Rattle.finding.proofs.ItemLaws.{Agree, run_small, items_less, items_greater, items_equal, children_table}
+use Prim.Native.Nat.{◌+◌, ◌-◌, ◌≤◌}
+use native.Mathlib.Omega.{arith}
+use borrow.Author.Count.{below_more}
+use lib.ListN.{length, get_or}
+use Rattle.finding.specs.Keys.{item_at}
+use Rattle.finding.proofs.compare_children.Given as goal
+
+abbrev pub invariant-loop-i : goal.invariant-loop-i
+invariant-loop-i l = (l.i ≤ length l.children) × Agree (λ j. item_at l.join l.limits l.bytes (l.start + j)) (λ j. get_or l.children j 0) l.i
+
+abbrev pub decreases-loop-i : goal.decreases-loop-i
+decreases-loop-i l = length l.children - l.i

@@ -1,0 +1,39 @@
+-- `finding::compare_elements` meets its contract. The loop's invariant: the items passed are the same, so the rest decides.
+-- Assumes nothing.
+use borrow.Author.Rules.{sfits_of}
+use Rattle.finding.proofs.ItemLaws.{Agree, run_small, items_less, items_greater, items_equal, elements_table, element_bits}
+use Prim.Native.Nat.{◌+◌, ◌-◌, ◌≤◌}
+use native.Mathlib.Omega.{arith}
+use borrow.Author.Count.{below_more}
+use lib.IntN.{pos}
+use lib.ListN.{length, get_or}
+use mir.Syntax.{w64}
+use mir.Val.{of_z}
+use Rattle.finding.specs.Keys.{item_at}
+use Rattle.finding.proofs.compare_elements.Goals as goal
+
+pub returns-then-x-y : goal.returns-then-x-y
+returns-then-x-y c =
+    let args = c.args in
+    let loop = c.loop-i in
+    let unsigned-arg = c.unsigned-arg-1 in
+    let unsigned = c.unsigned-y in
+    let loop-test = c.loop-i-test in
+    let y = element_bits (get_or args.list.now loop.i (pos 0)) (sfits_of unsigned-arg.given) unsigned.ensures in
+    items_less (elements_table args.list.now) loop.i loop.invariant.1 loop-test.true (omega arith)
+
+pub returns-then-y-x : goal.returns-then-y-x
+returns-then-y-x c =
+    let args = c.args in
+    let loop = c.loop-i in
+    let unsigned-arg = c.unsigned-arg-1 in
+    let unsigned = c.unsigned-y in
+    let loop-test = c.loop-i-test in
+    let y = element_bits (get_or args.list.now loop.i (pos 0)) (sfits_of unsigned-arg.given) unsigned.ensures in
+    items_greater (elements_table args.list.now) loop.i loop.invariant.1 loop-test.true (omega arith)
+
+pub returns : goal.returns
+returns c =
+    let args = c.args in
+    let loop = c.loop-i in
+    items_equal (elements_table args.list.now) loop.i loop.invariant.1 c.loop-i-test.false

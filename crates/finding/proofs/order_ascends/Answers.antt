@@ -1,0 +1,44 @@
+-- `finding::order_ascends` meets its contract. The loop's invariant: the entries passed are tested. Assumes nothing.
+use mathlib.Core.Path.{◌≡◌, sym, ◌∙◌}
+use mathlib.Core.Bool.{true}
+use Prim.Native.Nat.{◌-◌, ◌≤◌}
+use native.Mathlib.Omega.{arith}
+use borrow.Author.Tests.{not-true, not-false}
+use Rattle.lists.specs.Below.{all_below}
+use Rattle.lists.specs.BelowLaws.{below_none}
+use Rattle.finding.specs.Ascent.{entry_b}
+use Rattle.finding.proofs.MarkLaws.{mark_past, mark_falls, mark_more, mark_neighbours, mark_whole}
+use Rattle.finding.proofs.order_ascends.Goals as goal
+
+pub loop-k-init : goal.loop-k-init
+loop-k-init c = (omega arith, below_none _)
+
+pub returns-then-count-p : goal.returns-then-count-p
+returns-then-count-p c = mark_past _ _ _ c.loop-k.k c.loop-k-test.true (omega arith)
+
+pub rises-requires : goal.rises-requires
+rises-requires c =
+    let loop = c.loop-k in
+    let loop-test = c.loop-k-test in
+    let pre = c.requires in
+    mark_neighbours _ _ _ loop.k loop-test.true loop.invariant.1 (omega arith) pre
+
+pub returns-then-not-rises : goal.returns-then-not-rises
+returns-then-not-rises c =
+    let loop = c.loop-k in
+    let loop-test = c.loop-k-test in
+    let rises = c.rises in
+    mark_falls _ _ _ loop.k loop-test.true (sym rises.ensures ∙ c.if-not-rises.true)
+
+pub loop-k-preserved : goal.loop-k-preserved
+loop-k-preserved c =
+    let loop = c.loop-k in
+    let loop-test = c.loop-k-test in
+    let rises = c.rises in
+    let up = sym rises.ensures ∙ c.if-not-rises.false in
+    (omega arith, mark_more _ _ _ loop.k loop-test.true loop.invariant.1 (omega arith) up)
+
+pub returns : goal.returns
+returns c =
+    let loop = c.loop-k in
+    mark_whole _ _ _ loop.k loop.invariant.0 c.loop-k-test.false loop.invariant.1
