@@ -1,3 +1,3 @@
--- The definitions that the contracts cite, in the order to read them, each followed by its laws.
+-- The definitions that the contracts cite, in the order to read them. Their laws stand in proofs/.
 pub mod Cut
 pub mod Reading

@@ -8,6 +8,7 @@ ghost use Rattle.input.specs.Cut.{Fine, emptied_of, whole_of, part_of, cut_of};
 ghost use Rattle.input.specs.Reading.{moved, Filled, Handed};
 
 use lines::LINE_LIMIT;
+use std::io::Read;
 
 // Two lines of the greatest length: where a line is cut off by the buffer's end, there is room to read its rest.
 pub const BUFFER_SIZE: usize = 131072;
@@ -66,6 +67,7 @@ fn emptied(window: Window, passing: bool) -> Window
 }
 
 // The step where a newline stands at `end`.
+#[tactic(auto, using(std::proofs::lemmas::Bool::Decides::nat_tests), unfolding(crate::specs::Cut::whole_of))]
 fn whole(window: Window, end: usize) -> Step
     requires { (window.from ≤ end) × (end < window.to) }
     ensures { result ≡ whole_of window end }
@@ -140,8 +142,8 @@ fn move_down(buffer: &mut [u8], from: usize, to: usize)
     }
 }
 
-// Reads once, behind what stands in the window. Where nothing comes the input has ended.
-fn fill(fd: i32, buffer: &mut [u8], window: Window) -> Window
+// Reads once, behind what stands in the window. Where nothing comes the input has ended, and a read that fails brings nothing.
+fn fill<R: Read>(input: &mut R, buffer: &mut [u8], window: Window) -> Window
     requires { Fine buffer.old window }
     ensures { Filled buffer.old window buffer.new result }
 {
@@ -149,8 +151,8 @@ fn fill(fd: i32, buffer: &mut [u8], window: Window) -> Window
     let to = window.to;
     move_down(buffer, from, to);
     let held = to - from;
-    let got = libc::read(fd, &mut buffer[held..]);
-    let count = io::count(got, &buffer[held..]);
+    let got = input.read(&mut buffer[held..]);
+    let count = got.unwrap_or(0);
     Window {
         from: 0,
         to: held + count,
@@ -161,7 +163,7 @@ fn fill(fd: i32, buffer: &mut [u8], window: Window) -> Window
 
 // The window with more input behind what stands in it. Nothing is read where the input has ended, or where a whole line may stand there
 // already.
-fn more(fd: i32, buffer: &mut [u8], window: Window) -> Window
+fn more<R: Read>(input: &mut R, buffer: &mut [u8], window: Window) -> Window
     requires { Fine buffer.old window }
     ensures { Filled buffer.old window buffer.new result }
 {
@@ -171,11 +173,11 @@ fn more(fd: i32, buffer: &mut [u8], window: Window) -> Window
     if LINE_LIMIT < window.to - window.from {
         return window;
     }
-    fill(fd, buffer, window)
+    fill(input, buffer, window)
 }
 
 // One step: the next line that stands in the buffer whole, or one read where none does.
-fn advance(fd: i32, buffer: &mut [u8], window: Window) -> Step
+fn advance<R: Read>(input: &mut R, buffer: &mut [u8], window: Window) -> Step
     ensures { Handed buffer.old window buffer.new result }
 {
     if window.to < window.from {
@@ -187,14 +189,14 @@ fn advance(fd: i32, buffer: &mut [u8], window: Window) -> Step
     match cut(buffer, window) {
         Step::Line { start, end, next } => Step::Line { start, end, next },
         Step::TooLong { start, end, next } => Step::TooLong { start, end, next },
-        Step::More(next) => Step::More(more(fd, buffer, next)),
+        Step::More(next) => Step::More(more(input, buffer, next)),
         Step::End => Step::End,
     }
 }
 
 // One step over a whole buffer: hands out a line, tells one that is too long, asks to be called again, or tells the input's end.
-pub fn next_line(fd: i32, buffer: &mut [u8; BUFFER_SIZE], window: Window) -> Step
+pub fn next_line<R: Read>(input: &mut R, buffer: &mut [u8; BUFFER_SIZE], window: Window) -> Step
     ensures { Handed buffer.old window buffer.new result }
 {
-    advance(fd, buffer, window)
+    advance(input, buffer, window)
 }

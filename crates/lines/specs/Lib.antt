@@ -1,4 +1,5 @@
--- The definitions that the contracts cite, in the order to read them, each followed by its laws; then facts that compute.
+-- The definitions that the contracts cite, in the order to read them, each followed by its laws. The laws of `Colon`, and facts that
+-- compute, stand in proofs/.
 pub mod Text
 pub mod Parts
 pub mod PartsLaws
