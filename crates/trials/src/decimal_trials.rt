@@ -1,6 +1,6 @@
 // Every pair of numbers at the ends of i64 and near zero, with scales 0, 2, 18, 19, 27 and 28: their order, and each one's normal form.
-use crate::writing;
 use decimals::{Decimal, Order};
+use std::io;
 
 const NUMBERS: [i64; 11] = [
     -9223372036854775808,
@@ -28,43 +28,41 @@ fn decimal(i: usize) -> Decimal {
     }
 }
 
-fn sign(order: Order) {
+fn sign(rt: &impl Print, order: Order) -> io::Result<()> {
     match order {
-        Order::Less => writing::text(b"<"),
-        Order::Equal => writing::text(b"="),
-        Order::Greater => writing::text(b">"),
+        Order::Less => print!(rt; "<"),
+        Order::Equal => print!(rt; "="),
+        Order::Greater => print!(rt; ">"),
     }
 }
 
 // How a decimal stands to each of them.
-fn row(left: Decimal) {
+fn row(rt: &impl Print, left: Decimal) -> io::Result<()> {
     let mut j = 0;
     while j < COUNT {
         let right = decimal(j);
         if left.scale <= 28 {
             if right.scale <= 28 {
-                sign(decimals::compare(left, right));
+                sign(rt, decimals::compare(left, right))?;
             }
         }
         j += 1;
     }
+    Ok(())
 }
 
-pub fn run() {
+pub fn run(rt: &impl Print) -> io::Result<()> {
     let mut i = 0;
     while i < COUNT {
         let given = decimal(i);
         let normal = decimals::normal(given);
-        writing::integer(given.number);
-        writing::text(b" ");
-        writing::integer(given.scale as i64);
-        writing::text(b" is ");
-        writing::integer(normal.number);
-        writing::text(b" ");
-        writing::integer(normal.scale as i64);
-        writing::text(b" ");
-        row(given);
-        writing::text(b"\n");
+        print!(rt;
+            "{} {} is {} {} ",
+            given.number, given.scale, normal.number, normal.scale
+        )?;
+        row(rt, given)?;
+        println!(rt)?;
         i += 1;
     }
+    Ok(())
 }

@@ -1,5 +1,6 @@
 // Lists of 0, 1, 31 and 32 elements: made to ascend, and read as sets. Empty lists on either side are cases of their own.
 use crate::writing;
+use std::io;
 
 const GIVEN: [i64; 32] = [
     7,
@@ -77,76 +78,72 @@ const OTHERS: [i64; 32] = [
 ];
 
 // A given list as it is kept: its length, and all places of its row.
-fn settled(given: &[i64]) {
+fn settled(rt: &impl Print, given: &[i64]) -> io::Result<()> {
     if given.len() <= lists::LIST_LIMIT {
         let row = lists::settle(given);
-        writing::text(b"kept ");
-        writing::integer((row.length % 64) as i64);
-        writing::text(b" of:");
+        print!(rt; "kept {} of:", row.length)?;
         let places = row.places;
         let mut i = 0;
         while i < 32 {
-            writing::text(b" ");
-            writing::integer(places[i]);
+            print!(rt; " {}", places[i])?;
             i += 1;
         }
-        writing::text(b"\n");
+        println!(rt)?;
     }
+    Ok(())
 }
 
 // Two lists as sets: whether they share an element, and whether the right one has all of the left.
-fn sets(left: &[i64], right: &[i64]) {
-    writing::integer((left.len() % 64) as i64);
-    writing::text(b" and ");
-    writing::integer((right.len() % 64) as i64);
+fn sets(rt: &impl Print, left: &[i64], right: &[i64]) -> io::Result<()> {
+    print!(rt; "{} and {}", left.len(), right.len())?;
     if lists::ascending(left) {
         if lists::ascending(right) {
-            writing::truth(lists::one_of(left, right));
-            writing::truth(lists::all_of(left, right));
-            writing::text(b"\n");
-            return;
+            writing::truth(rt, lists::one_of(left, right))?;
+            writing::truth(rt, lists::all_of(left, right))?;
+            return println!(rt);
         }
     }
-    writing::text(b" do not ascend\n");
+    println!(rt; " do not ascend")
 }
 
-fn found(list: &[i64], x: i64) {
+fn found(rt: &impl Print, list: &[i64], x: i64) -> io::Result<()> {
     if lists::ascending(list) {
-        writing::integer(x);
-        writing::truth(lists::member(list, x));
-        writing::text(b"\n");
+        print!(rt; "{x}")?;
+        writing::truth(rt, lists::member(list, x))?;
+        println!(rt)?;
     }
+    Ok(())
 }
 
 // A list beside the empty one, itself, others and a list that does not ascend.
-fn beside(list: &[i64]) {
-    sets(list, &[]);
-    sets(&[], list);
-    sets(list, list);
-    sets(list, &ASCENDING);
-    sets(&ASCENDING, list);
-    sets(list, &OTHERS);
-    sets(&OTHERS, list);
-    sets(list, &GIVEN);
+fn beside(rt: &impl Print, list: &[i64]) -> io::Result<()> {
+    sets(rt, list, &[])?;
+    sets(rt, &[], list)?;
+    sets(rt, list, list)?;
+    sets(rt, list, &ASCENDING)?;
+    sets(rt, &ASCENDING, list)?;
+    sets(rt, list, &OTHERS)?;
+    sets(rt, &OTHERS, list)?;
+    sets(rt, list, &GIVEN)
 }
 
-pub fn run() {
-    settled(&[]);
-    settled(&GIVEN[..1]);
-    settled(&GIVEN[..31]);
-    settled(&GIVEN);
-    settled(&ASCENDING);
-    beside(&[]);
-    beside(&ASCENDING[..1]);
-    beside(&ASCENDING[1..]);
-    beside(&ASCENDING);
-    beside(&[5, 26]);
-    found(&[], 0);
-    found(&ASCENDING, -9223372036854775808);
-    found(&ASCENDING, -101);
-    found(&ASCENDING, -99);
-    found(&ASCENDING, 25);
-    found(&ASCENDING, 26);
-    found(&ASCENDING, 9223372036854775807);
-    found(&ASCENDING[..31], 9223372036854775807);
+pub fn run(rt: &impl Print) -> io::Result<()> {
+    settled(rt, &[])?;
+    settled(rt, &GIVEN[..1])?;
+    settled(rt, &GIVEN[..31])?;
+    settled(rt, &GIVEN)?;
+    settled(rt, &ASCENDING)?;
+    beside(rt, &[])?;
+    beside(rt, &ASCENDING[..1])?;
+    beside(rt, &ASCENDING[1..])?;
+    beside(rt, &ASCENDING)?;
+    beside(rt, &[5, 26])?;
+    found(rt, &[], 0)?;
+    found(rt, &ASCENDING, -9223372036854775808)?;
+    found(rt, &ASCENDING, -101)?;
+    found(rt, &ASCENDING, -99)?;
+    found(rt, &ASCENDING, 25)?;
+    found(rt, &ASCENDING, 26)?;
+    found(rt, &ASCENDING, 9223372036854775807)?;
+    found(rt, &ASCENDING[..31], 9223372036854775807)
 }

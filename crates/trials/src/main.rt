@@ -6,8 +6,10 @@ mod list_trials;
 mod predicate_trials;
 mod writing;
 
-fn main() {
-    decimal_trials::run();
-    list_trials::run();
-    predicate_trials::run();
+use std::io;
+
+fn main(rt: HostRuntime) -> io::Result<()> {
+    decimal_trials::run(&rt)?;
+    list_trials::run(&rt)?;
+    predicate_trials::run(&rt)
 }

@@ -4,10 +4,10 @@ ghost use Rattle.std.specs.Prelude.{◌≤◌};
 ghost use Rattle.decimals.specs.Decimals.{scale_limit};
 ghost use Rattle.predicates.specs.Meaning.{amount_in};
 
-use crate::writing;
 use decimals::Decimal;
 use evaluation::Truth;
 use events::{AttributeValue, StringId};
+use std::io;
 
 const KINDS: [u8; 18] = [
     10, 11, 20, 21, 30, 31, 32, 33, 40, 41, 50, 51, 52, 53, 60, 61, 62, 63,
@@ -58,58 +58,59 @@ fn value(attribute: u8, i: usize) -> AttributeValue
     }
 }
 
-fn letter(truth: Truth) {
+fn letter(rt: &impl Print, truth: Truth) -> io::Result<()> {
     match truth {
-        Truth::False => writing::text(b"F"),
-        Truth::Undefined => writing::text(b"U"),
-        Truth::True => writing::text(b"T"),
+        Truth::False => print!(rt; "F"),
+        Truth::Undefined => print!(rt; "U"),
+        Truth::True => print!(rt; "T"),
     }
 }
 
 // What a predicate says of a value, or of a list.
-fn says(kind: u8, tag: u8, value: AttributeValue, list: &[i64])
+fn says(rt: &impl Print, kind: u8, tag: u8, value: AttributeValue, list: &[i64]) -> io::Result<()>
     requires { (amount_in value).scale ≤ scale_limit }
 {
     if lists::ascending(list) {
         let kind = predicates::kind_of(kind);
         let literal = predicates::literal_of(tag, NUMBERS[tag as usize % 6], SCALE);
-        letter(predicates::evaluate(kind, literal, &ELEMENTS, value, list));
+        letter(
+            rt,
+            predicates::evaluate(kind, literal, &ELEMENTS, value, list),
+        )?;
     }
+    Ok(())
 }
 
-fn cell(kind: u8, tag: u8, attribute: u8) {
+fn cell(rt: &impl Print, kind: u8, tag: u8, attribute: u8) -> io::Result<()> {
     if !allows(kind, tag) {
-        writing::text(b" 1");
-        return;
+        return print!(rt; " 1");
     }
     if !predicates::suits(predicates::kind_of(kind), tag, attribute) {
-        writing::text(b" 6");
-        return;
+        return print!(rt; " 6");
     }
-    writing::text(b" ");
-    says(kind, tag, value(attribute, 0), &[]);
-    says(kind, tag, value(attribute, 1), &[]);
-    says(kind, tag, value(attribute, 2), &[2, 5]);
-    says(kind, tag, value(attribute, 3), &[5, 9]);
-    says(kind, tag, value(attribute, 4), &[3]);
+    print!(rt; " ")?;
+    says(rt, kind, tag, value(attribute, 0), &[])?;
+    says(rt, kind, tag, value(attribute, 1), &[])?;
+    says(rt, kind, tag, value(attribute, 2), &[2, 5])?;
+    says(rt, kind, tag, value(attribute, 3), &[5, 9])?;
+    says(rt, kind, tag, value(attribute, 4), &[3])
 }
 
-fn row(kind: u8, tag: u8) {
-    writing::integer(kind as i64);
-    writing::text(b" ");
-    writing::integer(tag as i64);
+fn row(rt: &impl Print, kind: u8, tag: u8) -> io::Result<()> {
+    print!(rt; "{kind} {tag}")?;
     let mut attribute = 1;
     while attribute <= 6 {
-        cell(kind, tag, attribute);
+        cell(rt, kind, tag, attribute)?;
         attribute += 1;
     }
-    writing::text(b"\n");
+    println!(rt)
 }
 
-pub fn run() {
+pub fn run(rt: &impl Print) -> io::Result<()> {
     let mut i: usize = 0;
     while i < 108 {
-        row(KINDS[i / 6], (i % 6) as u8);
+        row(rt, KINDS[i / 6], (i % 6) as u8)?;
         i += 1;
     }
+    Ok(())
 }
