@@ -1,7 +1,7 @@
 -- Laws of the table with one attribute more.
---     padded-at, padded-length                    a name in the places of a record
---     added-length, added-outside, added-count    the bytes that are kept, and the count
---     kind-kept, name-kept, kind-new, name_new    the attributes
+--     padded_at, padded_length                    a name in the places of a record
+--     added_length, added_outside, added_count    the bytes that are kept, and the count
+--     kind_kept, name_kept, kind_new, name_new    the attributes
 --     one_more                                    a sound table stays sound, its attributes are kept and the new one stands after them
 -- Assumes nothing.
 use Rattle.std.specs.Prelude.{◌≡◌, refl, ◌⊎◌, List, [], ◌∷◌, ◌++◌, ℕ, zero, suc, ◌+◌, ◌-◌, ◌≤◌, ◌<◌, length, get_or, drop, set, replicate}

@@ -1,8 +1,8 @@
 -- Laws of defining an attribute.
---     outcome-limit, outcome-twice, outcome-done    the outcome by cases
---     zero-done, zero-defined, refused-same         the outcome by its number
---     done-accepted, defines                        a definition taken into a sound table adds one attribute
---     outcome-length, outcome-sound                 the table stays as long as it was, and sound, refused or not
+--     outcome_limit, outcome_twice, outcome_done    the outcome by cases
+--     zero_done, zero_defined, refused_same         the outcome by its number
+--     done_accepted, defines                        a definition taken into a sound table adds one attribute
+--     outcome_length, outcome_sound                 the table stays as long as it was, and sound, refused or not
 -- Assumes nothing.
 use Rattle.std.specs.Prelude.{◌≡◌, refl, Bool, true, false, cond, List, ℕ, ◌≤◌, ◌<◌, length}
 use Rattle.std.proofs.Math.Decide.{ℕ_discrete}

@@ -1,9 +1,9 @@
 -- Laws of sound tables.
---     sound-iff                       the test `sound_table` holds exactly where the marks do
+--     sound_iff                       the test `sound_table` holds exactly where the marks do
 --     sound_empty                     a table with no attributes is sound
---     name-length                     a name in a sound table is as long as its record says
---     by_name-iff                     an attribute is found by a name exactly where it has that name
---     by_name-empty, by_name-long     an empty name and a long one are found nowhere
+--     name_length                     a name in a sound table is as long as its record says
+--     by_name_iff                     an attribute is found by a name exactly where it has that name
+--     by_name_empty, by_name_long     an empty name and a long one are found nowhere
 -- Assumes nothing.
 use Rattle.std.specs.Prelude.{◌≡◌, true, ◌↔◌, List, [], ℕ, ◌≤◌, ◌<◌, length}
 use Rattle.std.proofs.Common.{sym, ap, ◌∙◌}

@@ -1,9 +1,9 @@
 -- Laws of tables, sound or not.
---     between, is-between                            a number from low to high
---     first-none, first_more, first-here             the first number that passes a test, as a loop seeks it
---     first_passes, first-nothing, first-fails       and as a reader uses it
---     name-whole                                     how long a name is
---     by_name-named, by_name-nothing, by_name-none   what is found has the name, and nothing is found exactly where nothing has it
+--     between, is_between_lem                            a number from low to high
+--     first_none, first_more, first_here             the first number that passes a test, as a loop seeks it
+--     first_passes, first_nothing, first_fails       and as a reader uses it
+--     name_whole                                     how long a name is
+--     by_name_named, by_name_nothing, by_name_none   what is found has the name, and nothing is found exactly where nothing has it
 -- Assumes nothing.
 use Rattle.std.specs.Prelude.{◌≡◌, Bool, true, false, cond, List, ℕ, zero, suc, ◌+◌, ◌≤◌, ◌<◌, length, drop}
 use Rattle.std.proofs.Math.Path.{refl}

@@ -2,7 +2,7 @@
 -- and the new one, the marks hold again, and every other table reads as it did.
 --     New                                what must be known of the run and the record
 --     appended                           what follows
---     record-new, place-run, element-run     what the last part's record and runs are read as
+--     record_new, place_run, element_run     what the last part's record and runs are read as
 -- Assumes nothing.
 use mathlib.Core.Path.{◌≡◌, refl, sym, ap, ◌∙◌}
 use mathlib.Core.Bool.{Bool, true, false}

@@ -1,8 +1,8 @@
 -- Entries moved by one place, over any table that is read and written entry by entry.
 --     Table                              what such a table must keep
---     raise-more, raise-end, lower-more, lower-end    a move as a loop does it
---     raised-only, raised-up, raised-bytes       what a move up reaches, and where each entry is after it
---     lowered-only, lowered-down, lowered-bytes  and a move down
+--     raise_more, raise_end, lower_more, lower_end    a move as a loop does it
+--     raised_only, raised_up, raised_bytes       what a move up reaches, and where each entry is after it
+--     lowered_only, lowered_down, lowered_bytes  and a move down
 -- Assumes nothing.
 use mathlib.Core.Path.{◌≡◌, refl, sym, ap, ◌∙◌}
 use mathlib.Core.List.{List}

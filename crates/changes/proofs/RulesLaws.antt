@@ -1,8 +1,8 @@
 -- WHAT A CHANGE OF THE RULES DOES TO THE BOOK: the rules are the old ones with one put in, with one taken away, or with their roots
 -- renumbered, and nothing else changes.
---     rule-put-in, rule-taken-out, roots-renumbered
---     rule-unread, renumber-more         one root more, as a loop renumbers it
---     place-exact, all-before, all_after     a live id is found at its place, by halving
+--     rule_put_in, rule_taken_out, roots_renumbered
+--     rule_unread, renumber_more         one root more, as a loop renumbers it
+--     place_exact, all_before, all_after     a live id is found at its place, by halving
 -- Assumes nothing.
 use mathlib.Core.Path.{◌≡◌, refl, sym, ap, ◌∙◌}
 use mathlib.Core.List.{List, map}

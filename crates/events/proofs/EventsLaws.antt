@@ -1,6 +1,6 @@
 -- Laws of events.
---     row_inside, row-outside                      a row of the list store is written, and every other stays
---     fresh-shaped, fresh-undefined, fresh-suits   a fresh event has its shape and no value, and suits every table of as many attributes
+--     row_inside, row_outside                      a row of the list store is written, and every other stays
+--     fresh_shaped, fresh_undefined, fresh_suits   a fresh event has its shape and no value, and suits every table of as many attributes
 -- Assumes nothing.
 use Rattle.std.specs.Prelude.{◌≡◌, refl, ◌⊎◌, List, [], ◌∷◌, ◌++◌, ℕ, zero, suc, ◌+◌, ◌-◌, ◌*◌, ◌≤◌, ◌<◌, ℤ, pos, get_or, set, take, drop, replicate}
 use Rattle.std.proofs.Common.{sym, ap, ◌∙◌, ⊎_elim, append_assoc, arith, length-take-le, drop_at, take_at, drop-set-lt}

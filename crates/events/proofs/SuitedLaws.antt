@@ -1,9 +1,9 @@
 -- What is read of an event that suits a sound table.
---     number-suited    the value of an attribute has the number that its place holds
---     kind-suited      it is undefined, or of the kind that the table gives the attribute
---     scale-suited     a decimal has a scale within its limit
---     word-suited      a word has a number that a word may have
---     list-suited      a list ascends strictly
+--     number_suited    the value of an attribute has the number that its place holds
+--     kind_suited      it is undefined, or of the kind that the table gives the attribute
+--     scale_suited     a decimal has a scale within its limit
+--     word_suited      a word has a number that a word may have
+--     list_suited      a list ascends strictly
 -- Assumes nothing.
 use Rattle.std.specs.Prelude.{◌≡◌, refl, true, ◌⊎◌, List, ℕ, zero, suc, ◌≤◌, ◌<◌, ℤ}
 use Rattle.std.proofs.Math.Path.{sym, ap}

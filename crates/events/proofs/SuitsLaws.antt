@@ -1,8 +1,8 @@
 -- Laws of events that suit a table.
---     range-boolean, range-float, range-string, range-words, range_other    the range of a value, kind by kind
---     list-none, list-well                                                  the clauses of lists, of a value that is none and of one
---     place-undefined, place_other, place-list, place-range                 the test of one place, as the code comes to it
---     place-iff, suits-iff                                                  the tests hold exactly where the facts do
+--     range_boolean, range_float, range_string, range_words, range_other    the range of a value, kind by kind
+--     list_none, list_well                                                  the clauses of lists, of a value that is none and of one
+--     place_undefined, place_other, place_list, place_range                 the test of one place, as the code comes to it
+--     place_iff, suits_iff                                                  the tests hold exactly where the facts do
 -- Assumes nothing.
 use Rattle.std.specs.Prelude.{◌≡◌, refl, Bool, true, false, ◌||◌, ◌⊎◌, ◌↔◌, List, ℕ, ◌≤◌, eqb, leb, ℤ, pos}
 use Rattle.std.proofs.Common.{sym, ◌∙◌, true≢false, inl, inr}

@@ -1,7 +1,7 @@
 -- Laws of values.
---     up_to, to-up        a number from 0 to a limit, as a natural number
+--     up_to, to_up        a number from 0 to a limit, as a natural number
 --     value_none          a number of no kind stands for no value
---     words-settled       a list of words stays one when it is sorted and made distinct
+--     words_settled       a list of words stays one when it is sorted and made distinct
 -- Assumes nothing.
 use Rattle.std.specs.Prelude.{◌≡◌, refl, Bool, true, false, cond, List, [], ◌∷◌, ℕ, ◌≤◌, ℤ, pos, negsuc}
 use Rattle.std.proofs.Common.{sym, true≢false, arith, ne_eqb, leb-true, le-leb}

@@ -1,7 +1,7 @@
 -- What a caller may rely on of filling an event, dated or not, over a sound table.
---     done-taken      an answer of 0: the reading is set, every other attribute stays, and the event suits the table
---     old-taken       an answer of 40: the same with the attribute undefined
---     refused-same    any other answer: the event as it was
+--     done_taken      an answer of 0: the reading is set, every other attribute stays, and the event suits the table
+--     old_taken       an answer of 40: the same with the attribute undefined
+--     refused_same    any other answer: the event as it was
 --     filled_keeps    whatever the answer, the event keeps its shape, and suits the table if it did
 -- `fresh` is true where a reading bears no date, so that each law speaks of both calls.
 -- Assumes nothing.

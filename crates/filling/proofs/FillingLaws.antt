@@ -1,8 +1,8 @@
 -- Laws of the refusals.
---     named-within                                                           what is found by name is a place of an event
---     place-unsuited, place-nowhere, place-kind, place-limit, place-there    where a reading goes, check by check
+--     named_within                                                           what is found by name is a place of an event
+--     place_unsuited, place_nowhere, place_kind, place_limit, place_there    where a reading goes, check by check
 --     accepted, filled_at                                                    a reading with a place passed every check, and is set there
---     filled-refused                                                         a refusal gives its number, and the event as it was
+--     filled_refused                                                         a refusal gives its number, and the event as it was
 -- Assumes nothing.
 use Rattle.std.specs.Prelude.{◌≡◌, Bool, true, false, cond, not, List, ℕ, ◌<◌, ℤ}
 use Rattle.std.proofs.Math.Path.{refl}

@@ -1,8 +1,8 @@
 -- Laws of an event with a reading set.
---     set-shaped, set-count               it keeps its shape and its count
+--     set_shaped, set_count               it keeps its shape and its count
 --     value_set, list_set                 what is read at the place is what was given, a list sorted and made distinct
---     value-kept, list-kept               what is read at every other place is what it was
---     set-suits                           it suits the table that the event suited
+--     value_kept, list_kept               what is read at every other place is what it was
+--     set_suits                           it suits the table that the event suited
 -- Assumes nothing.
 use Rattle.std.specs.Prelude.{◌≡◌, true, false, List, ℕ, ◌≤◌, ◌<◌, ℤ, pos, nat_abs, length, get_or, set, take}
 use Rattle.std.proofs.Math.Path.{refl}

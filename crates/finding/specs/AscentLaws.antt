@@ -1,10 +1,10 @@
 -- What the strict ascent of the order table gives.
---     ascends-iff         the test is true exactly where the facts hold
---     rising-all          neighbours ascend, so all do
---     rising-once         two entries name parts with one key only at one place
---     rising-single       so an entry stands once
---     rising-named        and every part number below n is an entry
---     rising-distinct     NO TWO PARTS HAVE THE SAME KEY
+--     ascends_iff         the test is true exactly where the facts hold
+--     rising_all          neighbours ascend, so all do
+--     rising_once         two entries name parts with one key only at one place
+--     rising_single       so an entry stands once
+--     rising_named        and every part number below n is an entry
+--     rising_distinct     NO TWO PARTS HAVE THE SAME KEY
 -- Assumes nothing.
 use Rattle.std.specs.Prelude.{◌≡◌, true, List, ◌↔◌, ltb}
 use Rattle.std.proofs.Math.Path.{refl, ap}

@@ -1,9 +1,9 @@
 -- The order table after a delete: dropping entries and renumbering in order keeps the ascent, since a part's children get new numbers in
 -- their order too.
 --     kept_more, kept_less      one entry more, as a loop takes them
---     rank-renumbers            how many kept parts stand before each is such a renumbering
+--     rank_renumbers            how many kept parts stand before each is such a renumbering
 --     moved_order               renumbering the children keeps how two parts compare
---     drop-length, drop-rises   THE TABLE THAT IS LEFT NAMES EACH PART THAT IS LEFT, AND ASCENDS
+--     drop_length, drop_rises   THE TABLE THAT IS LEFT NAMES EACH PART THAT IS LEFT, AND ASCENDS
 -- Assumes nothing.
 use Rattle.std.specs.Prelude.{◌≡◌, Bool, ℕ, ◌+◌, ◌*◌, ◌<◌, ltb, length, get_or}
 use Rattle.std.proofs.Math.Path.{refl, ap, subst}

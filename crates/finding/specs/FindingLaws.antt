@@ -1,9 +1,9 @@
 -- What looking up answers.
---     between_start, between-end                   where halving starts and ends
---     middle-equal, middle-less, middle-greater    one halving, by how the part in the middle compares
---     placed-none                                  a key that has a place is the key of no part
---     right-at                                     THE ANSWER IS PART p EXACTLY WHERE PART p HAS THE KEY
---     right-once                                   there is one right answer only
+--     between_start, between_end                   where halving starts and ends
+--     middle_equal, middle_less, middle_greater    one halving, by how the part in the middle compares
+--     placed_none                                  a key that has a place is the key of no part
+--     right_at                                     THE ANSWER IS PART p EXACTLY WHERE PART p HAS THE KEY
+--     right_once                                   there is one right answer only
 -- Assumes nothing.
 use Rattle.std.specs.Prelude.{◌≡◌, List, ◌↔◌, ℕ, ◌+◌, ◌≤◌, ◌<◌}
 use Rattle.std.proofs.Math.Path.{sym, ap}

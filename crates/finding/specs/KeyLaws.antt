@@ -1,8 +1,8 @@
 -- What a part's key is read from: five fields of its record, and its items. So a part that is written with a candidate's fields and items
 -- has the candidate's key, and one whose record and items a change leaves alone keeps its key.
---     same-fields     equal fields and items, equal keys
---     key-read        the key of a part by what its record and its run hold
---     key-kept        a part that reads as before has its key as before
+--     same_fields     equal fields and items, equal keys
+--     key_read        the key of a part by what its record and its run hold
+--     key_kept        a part that reads as before has its key as before
 -- Assumes nothing.
 use Rattle.std.specs.Prelude.{◌≡◌, List, ◌∷◌, ℕ, ◌+◌, ◌*◌, ◌<◌, length}
 use Rattle.std.proofs.Math.Path.{ap}

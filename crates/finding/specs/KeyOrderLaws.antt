@@ -1,12 +1,12 @@
 -- Laws of the order of keys: it is total and strict, and the same only of the same key.
 --     Compared, compared                              how two numbers compare
---     then_less, then-greater, then_equal             the first numbers decide, or leave it to the rest
---     order_same, order-equal                         equal exactly of equal keys
---     order-turned, order_flip, order-flop            the other way round
---     order_trans, order-apart                        from one to the next, and never back to the same
---     order-append                                    heads of one length first, then what follows
---     table-less, table-greater, table-equal          the first items that differ decide, as a loop finds them
---     order-map                                       a renumbering that ascends keeps the order
+--     then_less, then_greater, then_equal             the first numbers decide, or leave it to the rest
+--     order_same, order_equal                         equal exactly of equal keys
+--     order_turned, order_flip, order_flop            the other way round
+--     order_trans, order_apart                        from one to the next, and never back to the same
+--     order_append                                    heads of one length first, then what follows
+--     table_less, table_greater, table_equal          the first items that differ decide, as a loop finds them
+--     order_map                                       a renumbering that ascends keeps the order
 -- Assumes nothing.
 use Rattle.std.specs.Prelude.{◌≡◌, refl, Bool, true, false, List, [], ◌∷◌, ◌++◌, map, ℕ, zero, suc, ◌+◌, ◌≤◌, ◌<◌, length, ltb}
 use Rattle.std.proofs.Common.{sym, ap, ◌∙◌, le_of_suc-le-suc, arith, ltb-true, ltb-false, lt-ltb, le-ltb}

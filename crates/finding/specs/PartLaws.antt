@@ -1,9 +1,9 @@
 -- Parts and their keys: the key settles the part, and the part its key.
---     same-key-same-part                   equal keys, equal parts
---     same-part-same-key                   equal parts, equal keys, where And and Or leave the fields that they do not use 0
---     parts-distinct                       NO TWO PARTS OF A BOOK WHOSE ORDER TABLE ASCENDS ARE THE SAME
---     found-predicate, found-join          THE PART THAT IS FOUND IS THE CANDIDATE
---     absent-predicate, absent-join        WHERE A PLACE IS FOUND NO PART IS THE CANDIDATE
+--     same_key_same_part                   equal keys, equal parts
+--     same_part_same_key                   equal parts, equal keys, where And and Or leave the fields that they do not use 0
+--     parts_distinct                       NO TWO PARTS OF A BOOK WHOSE ORDER TABLE ASCENDS ARE THE SAME
+--     found_predicate, found_join          THE PART THAT IS FOUND IS THE CANDIDATE
+--     absent_predicate, absent_join        WHERE A PLACE IS FOUND NO PART IS THE CANDIDATE
 -- Assumes nothing.
 use Rattle.std.specs.Prelude.{◌≡◌, Bool, cond, List, [], ◌∷◌, map, ℕ, ◌+◌, ◌*◌, ◌<◌, ltb, eqb, ℤ, length}
 use Rattle.std.proofs.Math.Path.{refl, sym}

@@ -1,5 +1,5 @@
 -- Laws of replacing predicates: flattening commutes with it (flat_map), so the flattened rule over predicates is read off the codes
--- (optimize-decoded); and so does the recursion over a flattened rule (run-map). Assumes nothing.
+-- (optimize_decoded); and so does the recursion over a flattened rule (run_map). Assumes nothing.
 use Rattle.std.specs.Prelude.{◌≡◌, refl, Bool, false, not, List, ◌∷◌, ℕ}
 use Rattle.std.proofs.Common.{ap, ap₂, ◌∙◌}
 use Rattle.evaluation.specs.declared.Operator.{Operator}

@@ -1,10 +1,10 @@
 -- The codes of a sheet whose n entries spell a tree: what `optimize` leaves, said in the words of a caller.
---   sheet-ready: such a sheet can be optimized.
---   codes-most-entries: there are at most n codes. codes-each: each names an entry that is a predicate, or has two children at least.
---   codes-held: run from an empty stack every operator finds its children. codes-run: and the run gives what the recursion gives;
---   codes-run-decoded: also over the predicates that the entries hold.
---   codes-read: they read back to the flattened rule. codes-value: they have the tree's Kleene value.
---   coded-codes, coded-at: the first `count` numbers of the array are the codes.
+--   sheet_ready: such a sheet can be optimized.
+--   codes_most_entries: there are at most n codes. codes_each: each names an entry that is a predicate, or has two children at least.
+--   codes_held: run from an empty stack every operator finds its children. codes_run: and the run gives what the recursion gives;
+--   codes_run_decoded: also over the predicates that the entries hold.
+--   codes_read: they read back to the flattened rule. codes_value: they have the tree's Kleene value.
+--   coded_codes, coded_at: the first `count` numbers of the array are the codes.
 -- Assumes nothing.
 use Rattle.std.specs.Prelude.{◌≡◌, refl, Bool, false, not, List, [], ◌∷◌, ℕ, ◌+◌, ◌*◌, ◌/◌, ◌-◌, ◌<◌, ◌≤◌, length, get_or, take, replicate, ℤ}
 use Rattle.std.proofs.Common.{sym, ◌∙◌, take_at}

@@ -1,8 +1,8 @@
 -- Laws of running codes.
---   run-flat: the codes of a flattened rule put exactly one value onto the stack, the one of the recursion, and leave its state.
---   run-next, run-held: one code more, and an operator finds its children: what a loop over the codes needs.
---   read-back: codes read back to the rule that they are of; so `codes_of` is injective (codes-injective).
---   values-fold: run without a state, codes give the fold of their rule.
+--   run_flat_lem: the codes of a flattened rule put exactly one value onto the stack, the one of the recursion, and leave its state.
+--   run_next, run_held: one code more, and an operator finds its children: what a loop over the codes needs.
+--   read_back_lem: codes read back to the rule that they are of; so `codes_of` is injective (codes_injective).
+--   values_fold: run without a state, codes give the fold of their rule.
 -- Assumes nothing.
 use Rattle.std.specs.Prelude.{◌≡◌, Bool, true, false, ltb, length, get_or, take, drop}
 use Rattle.std.proofs.Math.Path.{refl, ap}

@@ -1,7 +1,7 @@
 -- Laws of whole steps.
---     cut-within                                        what is cut out of a window lies within the buffer
---     hand-disordered, hand-outside                     a window that is not within the buffer
---     hand-line, hand-long, hand_end, hand-more         the step that the code makes of a cut
+--     cut_within                                        what is cut out of a window lies within the buffer
+--     hand_disordered, hand_outside                     a window that is not within the buffer
+--     hand_line, hand_long, hand_end, hand_more         the step that the code makes of a cut
 --     filled_more                                       what a read leaves: what stood there, and more
 -- Assumes nothing.
 use Rattle.std.specs.Prelude.{◌≡◌, refl, Bool, true, false, cond, List, ◌++◌, ℕ, ◌-◌, ◌≤◌, ◌<◌, leb, ltb, eqb, length, drop}

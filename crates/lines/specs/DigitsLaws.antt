@@ -1,8 +1,8 @@
 -- Laws of written numbers.
---     digits-small, digits_more                the digits of a number, and how they go on from those of its tenth part
---     length_more, digits-some, digits-limit   one digit at least, and for 64 bits 20 at the most
---     digits-lead                              the first is no 0, but in the number 0 itself
---     digits_value, read-written, read-signed  read back, the number itself
+--     digits_small, digits_more                the digits of a number, and how they go on from those of its tenth part
+--     length_more, digits_some, digits_limit   one digit at least, and for 64 bits 20 at the most
+--     digits_lead                              the first is no 0, but in the number 0 itself
+--     digits_value, read_written, read_signed  read back, the number itself
 -- Assumes nothing.
 use Rattle.std.specs.Prelude.{◌≡◌, refl, true, false, List, [], ◌∷◌, ◌++◌, ℕ, zero, suc, ◌+◌, ◌*◌, ◌-◌, ◌/◌, ◌%◌, ◌^◌, ◌≤◌, ◌<◌, pos, length, get_or}
 use Rattle.std.proofs.Common.{sym, ap, ◌∙◌, pow-suc, arith, lt-ltb, le-ltb, ne_eqb, le-leb, leb-true, length-append}

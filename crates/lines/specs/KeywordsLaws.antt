@@ -1,6 +1,6 @@
 -- Laws of the words that the desk knows.
---     among_none, among-here, among-on   a word's place among others, as a walk along them finds it
---     look-up-at, look-up-none, past     by that place, what stands beside the word in a table
+--     among_none, among_here, among_on   a word's place among others, as a walk along them finds it
+--     look_up_at, look_up_none, past     by that place, what stands beside the word in a table
 -- Assumes nothing.
 use Rattle.std.specs.Prelude.{◌≡◌, Bool, length}
 use Rattle.std.proofs.Math.Path.{refl}

@@ -1,9 +1,9 @@
 -- Laws of numbers.
---     digit-below, digit-above, digit-is                             what is a digit
---     step-no-digit, step_past, step-of, step-made                   one digit more
---     after-start, after-empty, after_read, after_stop, after-whole  digits one after the other, as a loop reads them
---     number-minus, number-plain, unsigned-minus, unsigned-plain     a word by its sign and its magnitude
---     magnitude-within, number_fits                                  what was read is within its limit
+--     digit_below, digit_above, digit_is                             what is a digit
+--     step_no_digit, step_past, step_of_lem, step_made                   one digit more
+--     after_start, after_empty, after_read, after_stop, after_whole  digits one after the other, as a loop reads them
+--     number_minus, number_plain, unsigned_minus, unsigned_plain     a word by its sign and its magnitude
+--     magnitude_within, number_fits                                  what was read is within its limit
 -- Assumes nothing.
 use Rattle.std.proofs.Math.Path.{◌≡◌, refl}
 use Rattle.std.proofs.Common.{sym, subst, ◌∙◌, add-one, drop_of_length-le, drop-cons, SFits}

@@ -1,9 +1,9 @@
 -- Laws of places and parts.
---     place-within                          a place is within the list
---     place_here, place-on, place_none      the first place, as a loop seeks it
---     place-before, place-behind            the first place of two lists one behind the other
---     parted-at                             up to the first place is the first part; what follows that place is parted alike
---     parted-words, parted-through          where there is no such byte: all is one part, which goes on in what is behind it
+--     place_within                          a place is within the list
+--     place_here, place_on, place_none      the first place, as a loop seeks it
+--     place_before, place_behind            the first place of two lists one behind the other
+--     parted_at                             up to the first place is the first part; what follows that place is parted alike
+--     parted_words, parted_through          where there is no such byte: all is one part, which goes on in what is behind it
 -- Assumes nothing.
 use Rattle.std.specs.Prelude.{◌≡◌, Bool, get_or, drop}
 use Rattle.std.proofs.Math.Path.{refl}

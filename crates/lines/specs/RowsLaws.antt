@@ -1,8 +1,8 @@
 -- Laws of rows of numbers, as a loop reads them: one word after the other, while there is a place for its number.
---     row_done, places-done                   no word is left: how many there are, and what stands in the places
---     row_more, places-more                   the next word is a number
---     row-none, places-none                   it is none
---     row-full, places-full                   there is no place for it
+--     row_done, places_done                   no word is left: how many there are, and what stands in the places
+--     row_more, places_more                   the next word is a number
+--     row_none, places_none                   it is none
+--     row_full, places_full                   there is no place for it
 -- Assumes nothing.
 use Rattle.std.specs.Prelude.{◌≡◌, List, [], ◌∷◌, leb, ℤ, set}
 use Rattle.std.proofs.Math.Path.{refl}

@@ -1,7 +1,7 @@
 -- Laws of words, as a walk along a line uses them.
---     words-whole, words_step, words-none   at the start all words are left, a step hands out the first of them, past the end none is left
---     word-ends, line-ends                  where a word or a line ends, with the bounds
---     every-none, every_first, every_rest, every_front   a test of each, one after the other
+--     words_whole, words_step, words_none   at the start all words are left, a step hands out the first of them, past the end none is left
+--     word_ends, line_ends                  where a word or a line ends, with the bounds
+--     every_none, every_first, every_rest, every_front   a test of each, one after the other
 -- Assumes nothing.
 use Rattle.std.specs.Prelude.{◌≡◌, Bool, true, false, length, take}
 use Rattle.std.proofs.Math.Path.{refl}

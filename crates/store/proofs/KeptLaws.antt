@@ -1,7 +1,7 @@
 -- What a write leaves: each table that it does not reach reads as it did.
---     laid_kept, counts-kept             the room, and the counts
---     attributes-kept, rules-kept, entries-kept, parts-kept    the tables
---     runs-kept                          the marks
+--     laid_kept, counts_kept             the room, and the counts
+--     attributes_kept, rules_kept, entries_kept, parts_kept    the tables
+--     runs_kept                          the marks
 -- Assumes nothing.
 use mathlib.Core.Path.{◌≡◌, sym, ap, ◌∙◌}
 use mathlib.Core.Bool.{true}

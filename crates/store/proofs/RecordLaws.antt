@@ -1,10 +1,10 @@
 -- A record and a rule are read and written in their own bytes alone, and what was written is read.
---     record-read                        ten fields that were read are the record
---     record-fits                        each field of a record that was read fits its width
---     record-only, rule-only             what a write elsewhere leaves
---     only-putRecord, only-putRule       what a write reaches
---     record-back, rule-back             what was written is read
---     bytes-putRecord, bytes-putRule     bytes stay bytes
+--     record_read                        ten fields that were read are the record
+--     record_fits                        each field of a record that was read fits its width
+--     record_only, rule_only             what a write elsewhere leaves
+--     only_put_record, only_put_rule       what a write reaches
+--     record_back, rule_back             what was written is read
+--     bytes_put_record, bytes_put_rule     bytes stay bytes
 -- Assumes nothing.
 use mathlib.Core.Path.{◌≡◌, ap, ◌∙◌}
 use mathlib.Core.List.{List}

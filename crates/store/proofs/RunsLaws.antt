@@ -1,10 +1,10 @@
 -- What a part is, and where its run stands.
---     part-is                            a part by its record
---     part_same, join-same               a part, and what it must be, go by its record and its run alone
---     sum-none, sum_more, sum-ext, sum-le    sums over the parts before a part
---     places-join, places-predicate, elements-join, elements-predicate    what one part more adds to the running sums
---     join-end, predicate-end            a part's run ends within its table's count
---     list-part                          a list, as the bytes that are handed back for it
+--     part_is                            a part by its record
+--     part_same, join_same               a part, and what it must be, go by its record and its run alone
+--     sum_none, sum_more, sum_ext, sum_le    sums over the parts before a part
+--     places_join, places_predicate, elements_join, elements_predicate    what one part more adds to the running sums
+--     join_end, predicate_end            a part's run ends within its table's count
+--     list_part                          a list, as the bytes that are handed back for it
 -- Assumes nothing.
 use mathlib.Core.Path.{◌≡◌, refl, sym, ap, ap₂, ◌∙◌}
 use mathlib.Core.Bool.{Bool, true, false}
