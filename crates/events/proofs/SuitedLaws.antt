@@ -19,7 +19,7 @@ use Rattle.attributes.specs.Sound.{Sound}
 use Rattle.events.specs.declared.AttributeValue.TheVariants.{Undefined, Float, String}
 use Rattle.events.specs.declared.Event.{Event}
 use Rattle.events.specs.declared.StringId.{StringId}
-use Rattle.events.specs.Values.{undefined_number, value_number, is_list, is_word, value_of}
+use Rattle.events.specs.Values.{value_number, is_list, is_word, value_of}
 use Rattle.events.specs.Events.{kind_of, number_of, scale_of, value_in, list_in}
 use Rattle.events.specs.Suits.{Suits}
 

@@ -5,7 +5,7 @@
 --     place_iff, suits_iff                                                  the tests hold exactly where the facts do
 -- Assumes nothing.
 use Rattle.std.specs.Prelude.{◌≡◌, refl, Bool, true, false, ◌||◌, ◌⊎◌, ◌↔◌, List, ℕ, ◌≤◌, eqb, leb, ℤ, pos}
-use Rattle.std.proofs.Common.{sym, ◌∙◌, true≢false, inl, inr}
+use Rattle.std.proofs.Common.{sym, true≢false, inl, inr}
 use borrow.Author.Tests.{eqb-true, eq-eqb, ne_eqb, leb-true, le-leb}
 use Rattle.lists.specs.And.{◌and◌}
 use Rattle.lists.specs.AndLaws.{true_and, and_true, and_left, and_right, and_first, and_second, and_skip, and_both}

@@ -8,7 +8,7 @@
 --     table_less, table_greater, table_equal          the first items that differ decide, as a loop finds them
 --     order_map                                       a renumbering that ascends keeps the order
 -- Assumes nothing.
-use Rattle.std.specs.Prelude.{◌≡◌, refl, Bool, true, false, List, [], ◌∷◌, ◌++◌, map, ℕ, zero, suc, ◌+◌, ◌≤◌, ◌<◌, length, ltb}
+use Rattle.std.specs.Prelude.{◌≡◌, refl, Bool, true, false, List, [], ◌∷◌, ◌++◌, map, ℕ, zero, suc, ◌≤◌, ◌<◌, length, ltb}
 use Rattle.std.proofs.Common.{sym, ap, ◌∙◌, le_of_suc-le-suc, arith, ltb-true, ltb-false, lt-ltb, le-ltb}
 use Rattle.lists.specs.Places.{All, both}
 use Rattle.lists.specs.Tabulate.{tabulate}

@@ -5,7 +5,7 @@
 --     found_predicate, found_join          THE PART THAT IS FOUND IS THE CANDIDATE
 --     absent_predicate, absent_join        WHERE A PLACE IS FOUND NO PART IS THE CANDIDATE
 -- Assumes nothing.
-use Rattle.std.specs.Prelude.{◌≡◌, Bool, cond, List, [], ◌∷◌, map, ℕ, ◌+◌, ◌*◌, ◌<◌, ltb, eqb, ℤ, length}
+use Rattle.std.specs.Prelude.{◌≡◌, Bool, cond, List, [], ◌∷◌, map, ℕ, ◌+◌, ◌*◌, ◌<◌, ltb, eqb, ℤ}
 use Rattle.std.proofs.Math.Path.{refl, sym}
 use Rattle.std.proofs.Common.{ap, ap₂, ◌∙◌, arith, ltb-true, eqb-true, to_z, of_z, SFits}
 use Rattle.std.proofs.Math.Bool.{true, false}

@@ -5,7 +5,6 @@ use Rattle.std.specs.Prelude.{◌≡◌, Bool, true, false, cond, not, ◌||◌,
 use Rattle.decimals.specs.declared.Decimal.{Decimal}
 use Rattle.decimals.specs.declared.Order.{Order}
 use Rattle.decimals.specs.declared.Order.TheVariants.{Less, Greater}
-use Rattle.decimals.specs.declared.Order.TheVariants as Order
 use Rattle.decimals.specs.Decimals.{scale_limit, compare_of}
 use Rattle.evaluation.specs.declared.Truth.{Truth}
 use Rattle.evaluation.specs.declared.Truth.TheVariants.{False, Undefined, True}
@@ -27,7 +26,6 @@ use Rattle.predicates.specs.declared.PredicateKind.{PredicateKind}
 use Rattle.predicates.specs.declared.PredicateKind.TheVariants.{Variable, NegatedVariable, Set, Comparison, Equality, Null}
 use Rattle.predicates.specs.declared.PredicateKind.TheVariants.{List as Lists}
 use Rattle.predicates.specs.declared.Literal.{Literal}
-use Rattle.predicates.specs.declared.Literal.TheVariants as Literal
 use Rattle.predicates.specs.Kinds.{kind_of, negated_number}
 use Rattle.predicates.specs.Suits.{tag_of, suits_of}
 use Rattle.predicates.specs.Predicate.{Predicate}

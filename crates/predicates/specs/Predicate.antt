@@ -5,7 +5,6 @@ use Rattle.std.specs.Prelude.{◌≡◌, List, ◌∷◌, ℕ, length, ℤ, pos,
 use Rattle.std.proofs.Common.{ap, sym}
 use Rattle.std.proofs.Math.Decide.{ℕ_discrete}
 use Rattle.std.proofs.Math.IntN.{pos-ne-negsuc}
-use Rattle.lists.specs.Places.{list?}
 use Rattle.predicates.specs.Kinds.{kind_of, cost_of}
 
 -- The literal is the number of an integer, a word or a decimal, the decimal's scale and the list's elements.

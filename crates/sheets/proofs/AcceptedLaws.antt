@@ -8,7 +8,6 @@ use Rattle.std.proofs.Math.Bool.{true, false}
 use Prim.Native.Nat.{ℕ, zero, suc, ◌+◌, ◌≤◌, ◌<◌}
 use borrow.Author.Tests.{eqb-true, leb-true, le-leb}
 use Rattle.std.proofs.Math.ListN.{length-take}
-use Rattle.lists.specs.And.{◌and◌}
 use Rattle.lists.specs.AndLaws.{and_right}
 use Rattle.lists.specs.Sets.{ascends}
 use Rattle.decimals.specs.declared.Decimal.{Decimal}

@@ -13,7 +13,7 @@ use Prim.Native.Nat.{ℕ, zero, suc, ◌+◌, ◌*◌, ◌≤◌, ◌<◌}
 use native.Mathlib.Decide.{ℕ_discrete}
 use native.Mathlib.Omega.{arith}
 use lib.IntN.{ℤ}
-use lib.ListN.{length, get_or, take, drop}
+use lib.ListN.{get_or, take, drop}
 use lib.Seq.{get_or-take, get_or-drop}
 use mir.Syntax.{w64}
 use mir.Val.{to_z}

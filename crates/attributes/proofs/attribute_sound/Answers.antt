@@ -1,8 +1,6 @@
 -- `attributes::attribute_sound` meets its contract: each way out is a case of the test. At `kinded` the kind was found right, at
 -- `sized` the name's length. Assumes nothing.
 use mathlib.Core.Path.{sym, ap, ◌∙◌}
-use borrow.Author.Tests.{not-true, not-false}
-use borrow.Author.Rules.{rules}
 use Rattle.lists.specs.AndLaws.{and_first, and_second, and_both}
 use Rattle.attributes.specs.Table.{nowhere}
 use Rattle.attributes.specs.Sound.{sound_attribute}

@@ -2,15 +2,13 @@
 -- bytes, at `free` the table to have room, and `good` says that the definition's array has 32 places. Assumes nothing.
 use mathlib.Core.Path.{sym, ap, ◌∙◌}
 use Prim.Native.Nat.{ℕ}
-use native.Mathlib.Omega.{arith}
 use lib.ListN.{length}
 use mathlib.Core.Path.{◌≡◌}
-use borrow.Author.Rules.{rules, length_unmapped}
-use borrow.Author.Tests.{lt-ltb, le-ltb, not-true, not-false}
+use borrow.Author.Tests.{lt-ltb, le-ltb}
 use Rattle.lists.specs.AndLaws.{and_first, and_second, and_both}
 use Rattle.attributes.specs.Definitions.{name_of, added, outcome}
 use Rattle.attributes.specs.DefinitionsLaws.{outcome_limit, outcome_twice, outcome_done}
-use Rattle.attributes.proofs.NameLaws.{name_within, name_taken, name_short}
+use Rattle.attributes.proofs.NameLaws.{name_within, name_taken}
 use Rattle.attributes.proofs.define.Goals as goal
 
 pub returns-then-not-between : goal.returns-then-not-between

@@ -1,10 +1,7 @@
 -- `attributes::first_named` meets its contract. The invariant: no attribute passed has the name. Assumes nothing.
-use mathlib.Core.Path.{◌≡◌, sym}
-use Prim.Native.Nat.{◌-◌, ◌≤◌}
+use mathlib.Core.Path.{sym}
 use native.Mathlib.Omega.{arith}
-use borrow.Author.Rules.{rules}
-use Rattle.attributes.specs.declared.Found.TheVariants.{Nothing}
-use Rattle.attributes.specs.Table.{named, first_below}
+use Rattle.attributes.specs.Table.{named}
 use Rattle.attributes.specs.TableLaws.{first_none, first_more, first_here}
 use Rattle.attributes.proofs.NameLaws.{named_told}
 use Rattle.attributes.proofs.first_named.Goals as goal

@@ -1,12 +1,8 @@
 -- `attributes::first_named` meets its contract. The invariant: no attribute passed has the name. Assumes nothing.
-use mathlib.Core.Path.{◌≡◌, sym}
+use mathlib.Core.Path.{◌≡◌}
 use Prim.Native.Nat.{◌-◌, ◌≤◌}
-use native.Mathlib.Omega.{arith}
-use borrow.Author.Rules.{rules}
 use Rattle.attributes.specs.declared.Found.TheVariants.{Nothing}
 use Rattle.attributes.specs.Table.{named, first_below}
-use Rattle.attributes.specs.TableLaws.{first_none, first_more, first_here}
-use Rattle.attributes.proofs.NameLaws.{named_told}
 use Rattle.attributes.proofs.first_named.Given as goal
 
 abbrev pub invariant-loop-i : goal.invariant-loop-i

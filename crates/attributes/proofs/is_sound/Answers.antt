@@ -1,15 +1,11 @@
 -- `attributes::is_sound` meets its contract. The invariant: each attribute passed is sound. Assumes nothing.
 use mathlib.Core.Path.{◌≡◌, sym, ◌∙◌}
-use mathlib.Core.Bool.{true}
-use Prim.Native.Nat.{◌-◌, ◌≤◌}
 use native.Mathlib.Omega.{arith}
-use borrow.Author.Rules.{rules}
-use borrow.Author.Tests.{eq-eqb, ne_eqb, le-leb, lt-leb, not-true, not-false}
+use borrow.Author.Tests.{eq-eqb, ne_eqb, le-leb, lt-leb}
 use Rattle.lists.specs.AndLaws.{and_first, and_second, and_both}
-use Rattle.lists.specs.Below.{all_below}
 use Rattle.lists.specs.BelowLaws.{below_none, below_more, below_broken}
 use Rattle.attributes.specs.Table.{attribute_limit, count_of}
-use Rattle.attributes.specs.Sound.{sound_attribute, sound_table}
+use Rattle.attributes.specs.Sound.{sound_table}
 use Rattle.attributes.proofs.is_sound.Goals as goal
 
 pub returns-then-table-ne-TABLE_SIZE : goal.returns-then-table-ne-TABLE_SIZE

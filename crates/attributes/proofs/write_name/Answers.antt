@@ -1,13 +1,7 @@
 -- `attributes::write_name` meets its contract. The invariant: the places passed hold the padded name, and the others what they held.
 -- Assumes nothing.
-use mathlib.Core.Path.{◌≡◌}
-use Prim.Native.Nat.{◌-◌, ◌≤◌}
 use native.Mathlib.Omega.{arith}
-use borrow.Author.Rules.{rules}
-use lib.ListN.{length, length-set}
-use lib.Seq.{paste, paste-zero}
-use Rattle.attributes.specs.Table.{name_limit}
-use Rattle.attributes.specs.Definitions.{padded}
+use lib.ListN.{length-set}
 use Rattle.attributes.proofs.NameLaws.{filled_more, filled_whole}
 use Rattle.attributes.proofs.write_name.Goals as goal
 

@@ -2,13 +2,10 @@
 -- Assumes nothing.
 use mathlib.Core.Path.{◌≡◌}
 use Prim.Native.Nat.{◌-◌, ◌≤◌}
-use native.Mathlib.Omega.{arith}
-use borrow.Author.Rules.{rules}
-use lib.ListN.{length, length-set}
-use lib.Seq.{paste, paste-zero}
+use lib.ListN.{length}
+use lib.Seq.{paste}
 use Rattle.attributes.specs.Table.{name_limit}
 use Rattle.attributes.specs.Definitions.{padded}
-use Rattle.attributes.proofs.NameLaws.{filled_more, filled_whole}
 use Rattle.attributes.proofs.write_name.Given as goal
 
 abbrev pub invariant-loop-k : goal.invariant-loop-k

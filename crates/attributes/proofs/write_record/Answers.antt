@@ -1,9 +1,5 @@
 -- `attributes::write_record` meets its contract. Assumes nothing.
-use mathlib.Core.Path.{ap, ◌∙◌}
-use native.Mathlib.Omega.{arith}
-use borrow.Author.Rules.{rules}
-use lib.ListN.{length, length-set}
-use lib.Seq.{length-sets}
+use mathlib.Core.Path.{◌∙◌}
 use Rattle.attributes.proofs.NameLaws.{record_written}
 use Rattle.attributes.proofs.write_record.Goals as goal
 

@@ -1,15 +1,11 @@
 -- `bytes_equal::same_bytes` meets its contract. The invariant: each byte passed is the same in both. Assumes nothing.
 use mathlib.Core.Path.{◌≡◌, sym}
-use mathlib.Core.Bool.{true}
-use Prim.Native.Nat.{◌-◌, ◌≤◌}
 use native.Mathlib.Omega.{arith}
-use borrow.Author.Rules.{rules}
 use borrow.Author.Tests.{eq-eqb, ne_eqb}
 use lib.ListN.{length}
 use Rattle.lists.specs.AndLaws.{and_first, and_second, and_both}
-use Rattle.lists.specs.Below.{all_below}
 use Rattle.lists.specs.BelowLaws.{below_none, below_more, below_broken}
-use Rattle.bytes_equal.specs.Bytes.{same_at, same_bytes}
+use Rattle.bytes_equal.specs.Bytes.{same_bytes}
 use Rattle.bytes_equal.proofs.same_bytes.Goals as goal
 
 pub returns-then-n-right : goal.returns-then-n-right

@@ -1,6 +1,5 @@
 -- `changes::append_join` meets its contract. Assumes nothing.
 use Rattle.changes.proofs.WritingLaws.{join_put}
-use borrow.Author.Rules.{rules}
 use Rattle.changes.proofs.append_join.Goals as goal
 
 pub returns : goal.returns

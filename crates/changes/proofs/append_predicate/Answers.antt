@@ -1,6 +1,5 @@
 -- `changes::append_predicate` meets its contract. Assumes nothing.
 use Rattle.changes.proofs.WritingLaws.{predicate_put}
-use borrow.Author.Rules.{rules}
 use Rattle.changes.proofs.append_predicate.Goals as goal
 
 pub returns : goal.returns

@@ -1,10 +1,6 @@
 -- `changes::insert_entry` meets its contract. Assumes nothing.
-use mathlib.Core.Path.{◌≡◌, refl}
-use Prim.Native.Nat.{◌-◌, ◌≤◌}
 use native.Mathlib.Omega.{arith}
-use lib.ListN.{length}
 use Rattle.store.specs.Records.{entry_at, put_entry}
-use Rattle.changes.specs.Moving.{raised}
 use Rattle.changes.proofs.MovingLaws.{raise_more, raise_end}
 use Rattle.changes.proofs.WritingLaws.{entry_inserted}
 use borrow.Author.Rules.{rules}

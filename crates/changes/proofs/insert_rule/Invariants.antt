@@ -1,13 +1,9 @@
 -- `changes::insert_rule` meets its contract. Assumes nothing.
-use mathlib.Core.Path.{◌≡◌, refl}
-use Prim.Native.Nat.{◌-◌, ◌≤◌}
-use native.Mathlib.Omega.{arith}
+use mathlib.Core.Path.{◌≡◌}
+use Prim.Native.Nat.{◌≤◌}
 use lib.ListN.{length}
 use Rattle.store.specs.Records.{rule_at, put_rule}
 use Rattle.changes.specs.Moving.{raised}
-use Rattle.changes.proofs.MovingLaws.{raise_more, raise_end}
-use Rattle.changes.proofs.WritingLaws.{rule_inserted}
-use borrow.Author.Rules.{rules}
 use Rattle.changes.proofs.insert_rule.Given as goal
 
 abbrev pub invariant-loop-left : goal.invariant-loop-left

@@ -1,10 +1,6 @@
 -- `changes::remove_rule` meets its contract. Assumes nothing.
-use mathlib.Core.Path.{◌≡◌, refl}
-use Prim.Native.Nat.{◌+◌, ◌-◌, ◌≤◌, ◌<◌}
 use native.Mathlib.Omega.{arith}
-use lib.ListN.{length}
 use Rattle.store.specs.Records.{rule_at, put_rule}
-use Rattle.changes.specs.Moving.{lowered}
 use Rattle.changes.proofs.MovingLaws.{lower_more, lower_end}
 use Rattle.changes.proofs.WritingLaws.{rule_removed}
 use borrow.Author.Rules.{rules}

@@ -1,8 +1,6 @@
 -- `changes::renumber_roots` meets its contract. Assumes nothing.
-use mathlib.Core.Path.{◌≡◌, refl, ap, ◌∙◌}
-use Prim.Native.Nat.{◌-◌, ◌≤◌}
+use mathlib.Core.Path.{refl, ap}
 use native.Mathlib.Omega.{arith}
-use lib.ListN.{length}
 use Rattle.store.specs.declared.Rule.{Rule}
 use Rattle.changes.specs.Changes.{renumber_roots}
 use Rattle.changes.proofs.RulesLaws.{rule_unread, renumber_more}

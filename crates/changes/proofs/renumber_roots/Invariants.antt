@@ -1,12 +1,8 @@
 -- `changes::renumber_roots` meets its contract. Assumes nothing.
-use mathlib.Core.Path.{◌≡◌, refl, ap, ◌∙◌}
+use mathlib.Core.Path.{◌≡◌}
 use Prim.Native.Nat.{◌-◌, ◌≤◌}
-use native.Mathlib.Omega.{arith}
 use lib.ListN.{length}
-use Rattle.store.specs.declared.Rule.{Rule}
 use Rattle.changes.specs.Changes.{renumber_roots}
-use Rattle.changes.proofs.RulesLaws.{rule_unread, renumber_more}
-use borrow.Author.Rules.{rules}
 use Rattle.changes.proofs.renumber_roots.Given as goal
 
 abbrev pub invariant-loop-i : goal.invariant-loop-i

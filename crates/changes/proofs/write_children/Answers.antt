@@ -1,12 +1,10 @@
 -- `changes::write_children` meets its contract. Assumes nothing.
-use mathlib.Core.Path.{◌≡◌, refl, ap, ◌∙◌}
-use Prim.Native.Nat.{◌+◌, ◌*◌, ◌-◌, ◌≤◌}
-use native.Mathlib.Omega.{arith}
-use lib.ListN.{length, get_or}
+use mathlib.Core.Path.{refl}
+use Prim.Native.Nat.{◌+◌, ◌*◌}
+use lib.ListN.{get_or}
 use Rattle.words.specs.Run.{wrote}
 use Rattle.words.proofs.RunLaws.{wrote_more}
 use Rattle.store.specs.Layout.{places_at}
-use Rattle.changes.specs.Changes.{put_children}
 use borrow.Author.Rules.{rules}
 use Rattle.changes.proofs.write_children.Goals as goal
 

@@ -1,13 +1,8 @@
 -- `changes::write_children` meets its contract. Assumes nothing.
-use mathlib.Core.Path.{◌≡◌, refl, ap, ◌∙◌}
-use Prim.Native.Nat.{◌+◌, ◌*◌, ◌-◌, ◌≤◌}
-use native.Mathlib.Omega.{arith}
-use lib.ListN.{length, get_or}
-use Rattle.words.specs.Run.{wrote}
-use Rattle.words.proofs.RunLaws.{wrote_more}
-use Rattle.store.specs.Layout.{places_at}
+use mathlib.Core.Path.{◌≡◌}
+use Prim.Native.Nat.{◌-◌, ◌≤◌}
+use lib.ListN.{length}
 use Rattle.changes.specs.Changes.{put_children}
-use borrow.Author.Rules.{rules}
 use Rattle.changes.proofs.write_children.Given as goal
 
 abbrev pub invariant-loop-k : goal.invariant-loop-k

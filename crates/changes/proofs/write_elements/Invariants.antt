@@ -1,15 +1,8 @@
 -- `changes::write_elements` meets its contract. Assumes nothing.
-use mathlib.Core.Path.{◌≡◌, refl}
+use mathlib.Core.Path.{◌≡◌}
 use Prim.Native.Nat.{◌-◌, ◌≤◌}
-use native.Mathlib.Omega.{arith}
-use lib.ListN.{length, get_or}
-use lib.IntN.{pos}
-use mir.Syntax.{w64}
-use mir.Val.{SFits}
-use Rattle.words.specs.Run.{wrote}
+use lib.ListN.{length}
 use Rattle.changes.specs.Effects.{ElementsPut}
-use Rattle.changes.proofs.WritingLaws.{elements_more}
-use borrow.Author.Rules.{rules}
 use Rattle.changes.proofs.write_elements.Given as goal
 
 abbrev pub invariant-loop-k : goal.invariant-loop-k

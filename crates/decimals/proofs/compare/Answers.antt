@@ -2,7 +2,6 @@
 -- Assumes nothing.
 use mathlib.Core.Path.{ap, ◌∙◌}
 use native.Mathlib.Nat.{le_of_lt}
-use borrow.Author.Rules.{rules}
 use Rattle.decimals.specs.Order.{turned_of}
 use Rattle.decimals.proofs.ScaleLaws.{same_scale, lesser_scale, greater_scale}
 use Rattle.decimals.proofs.SignLaws.{back}

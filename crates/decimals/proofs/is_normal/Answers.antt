@@ -1,9 +1,8 @@
 -- `decimals::is_normal` meets its contract: the remainder's bits are 0 exactly where the number ends in 0.
 -- Assumes nothing.
-use native.Mathlib.Omega.{arith}
 use borrow.Author.Tests.{eq-eqb, ne_eqb}
 use Rattle.decimals.specs.Normal.{is_normal}
-use Rattle.decimals.proofs.SignLaws.{quot_fits, rem_bits}
+use Rattle.decimals.proofs.SignLaws.{rem_bits}
 use Rattle.decimals.proofs.is_normal.Goals as goal
 
 pub returns-then-d-eq0 : goal.returns-then-d-eq0

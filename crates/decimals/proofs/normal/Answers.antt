@@ -1,10 +1,8 @@
 -- `decimals::normal` meets its contract: a zero taken off keeps the normal form, and what has none left to take off is its own.
 -- Assumes nothing.
-use mathlib.Core.Path.{◌≡◌, refl, sym, ◌∙◌}
+use mathlib.Core.Path.{sym, ◌∙◌}
 use native.Mathlib.Omega.{arith}
-use borrow.Author.Tests.{not-true, not-false}
-use Rattle.decimals.specs.Normal.{normal_of}
-use Rattle.decimals.proofs.SignLaws.{quot_fits, quot_back}
+use Rattle.decimals.proofs.SignLaws.{quot_back}
 use Rattle.decimals.proofs.ShorteningLaws.{normal_stop, normal_step}
 use Rattle.decimals.proofs.normal.Goals as goal
 

@@ -1,11 +1,7 @@
 -- `decimals::normal` meets its contract: a zero taken off keeps the normal form, and what has none left to take off is its own.
 -- Assumes nothing.
-use mathlib.Core.Path.{◌≡◌, refl, sym, ◌∙◌}
-use native.Mathlib.Omega.{arith}
-use borrow.Author.Tests.{not-true, not-false}
+use mathlib.Core.Path.{◌≡◌}
 use Rattle.decimals.specs.Normal.{normal_of}
-use Rattle.decimals.proofs.SignLaws.{quot_fits, quot_back}
-use Rattle.decimals.proofs.ShorteningLaws.{normal_stop, normal_step}
 use Rattle.decimals.proofs.normal.Given as goal
 
 abbrev pub invariant-loop-number : goal.invariant-loop-number

@@ -2,7 +2,6 @@
 -- Assumes nothing.
 use mathlib.Core.Path.{sym, ap₂, ◌∙◌}
 use Prim.Native.Nat.{◌^◌}
-use borrow.Author.Rules.{rules}
 use Rattle.decimals.specs.Order.{then_of}
 use Rattle.decimals.proofs.ScaleLaws.{ten_pos}
 use Rattle.decimals.proofs.DivisionLaws.{divided, far}

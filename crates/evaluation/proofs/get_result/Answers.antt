@@ -1,5 +1,4 @@
 -- `evaluation::get_result` meets its contract. Assumes nothing.
-use borrow.Author.Rules.{rules}
 use borrow.Author.Tests.{eq-eqb, ne_eqb}
 use Rattle.evaluation.specs.Results.{outcome_of}
 use Rattle.evaluation.proofs.get_result.Goals as goal

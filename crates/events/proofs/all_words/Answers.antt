@@ -1,13 +1,9 @@
 -- `events::all_words` meets its contract. The invariant: the whole is words just where the rest from `i` on is. Assumes nothing.
-use borrow.Author.Tests.{not-true, not-false}
 use mir.Facts.{to_z-of_z}
 use Rattle.events.proofs.WordsLaws.{words_on, words_stop, words_end}
-use mathlib.Core.Path.{◌≡◌, refl, sym, ◌∙◌}
-use Prim.Native.Nat.{◌≤◌, ◌-◌}
+use mathlib.Core.Path.{sym, ◌∙◌}
 use native.Mathlib.Omega.{arith}
-use borrow.Author.Rules.{rules, sfits_of}
-use lib.ListN.{length, drop}
-use Rattle.events.specs.Values.{all_words}
+use borrow.Author.Rules.{sfits_of}
 use Rattle.events.proofs.all_words.Goals as goal
 
 pub returns-then-not-up_to : goal.returns-then-not-up_to

@@ -2,7 +2,6 @@
 use mathlib.Core.Path.{sym, ◌∙◌}
 use mir.Facts.{to_z-of_z}
 use Rattle.events.proofs.SuitsLaws.{range_boolean, range_float, range_string, range_words, range_other}
-use borrow.Author.Rules.{rules}
 use Rattle.events.proofs.in_range.Goals as goal
 
 pub returns-then-kind-eq-BOOLEAN : goal.returns-then-kind-eq-BOOLEAN

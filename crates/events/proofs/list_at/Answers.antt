@@ -1,5 +1,4 @@
 -- `events::list_at` meets its contract: either way out is a part of the row. Assumes nothing.
-use borrow.Author.Rules.{rules}
 use Rattle.events.proofs.PartLaws.{part_row, part_list}
 use Rattle.events.proofs.list_at.Goals as goal
 

@@ -1,10 +1,9 @@
 -- `events::list_suits` meets its contract. Assumes nothing.
 use mathlib.Core.Path.{sym, ◌∙◌}
-use borrow.Author.Tests.{not-true, not-false, le-leb, lt-leb}
+use borrow.Author.Tests.{le-leb, lt-leb}
 use Rattle.lists.specs.And.{◌and◌}
 use Rattle.lists.specs.AndLaws.{and_first, and_skip}
 use Rattle.events.specs.Suits.{◌implies◌, list_suits}
-use borrow.Author.Rules.{rules}
 use Rattle.events.proofs.list_suits.Goals as goal
 
 pub returns-then-not-is_list : goal.returns-then-not-is_list

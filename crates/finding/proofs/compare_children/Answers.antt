@@ -1,11 +1,7 @@
 -- `finding::compare_children` meets its contract. The loop's invariant: the items passed are the same, so the rest decides.
 -- Assumes nothing.
-use Rattle.finding.proofs.ItemLaws.{Agree, run_small, items_less, items_greater, items_equal, children_table}
-use Prim.Native.Nat.{◌+◌, ◌-◌, ◌≤◌}
+use Rattle.finding.proofs.ItemLaws.{items_less, items_greater, items_equal, children_table}
 use native.Mathlib.Omega.{arith}
-use borrow.Author.Count.{below_more}
-use lib.ListN.{length, get_or}
-use Rattle.finding.specs.Keys.{item_at}
 use Rattle.finding.proofs.compare_children.Goals as goal
 
 pub returns-then-x-y : goal.returns-then-x-y

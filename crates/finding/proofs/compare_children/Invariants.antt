@@ -1,9 +1,7 @@
 -- `finding::compare_children` meets its contract. The loop's invariant: the items passed are the same, so the rest decides.
 -- Assumes nothing.
-use Rattle.finding.proofs.ItemLaws.{Agree, run_small, items_less, items_greater, items_equal, children_table}
+use Rattle.finding.proofs.ItemLaws.{Agree}
 use Prim.Native.Nat.{◌+◌, ◌-◌, ◌≤◌}
-use native.Mathlib.Omega.{arith}
-use borrow.Author.Count.{below_more}
 use lib.ListN.{length, get_or}
 use Rattle.finding.specs.Keys.{item_at}
 use Rattle.finding.proofs.compare_children.Given as goal

@@ -1,15 +1,10 @@
 -- `finding::compare_elements` meets its contract. The loop's invariant: the items passed are the same, so the rest decides.
 -- Assumes nothing.
 use borrow.Author.Rules.{sfits_of}
-use Rattle.finding.proofs.ItemLaws.{Agree, run_small, items_less, items_greater, items_equal, elements_table, element_bits}
-use Prim.Native.Nat.{◌+◌, ◌-◌, ◌≤◌}
+use Rattle.finding.proofs.ItemLaws.{items_less, items_greater, items_equal, elements_table, element_bits}
 use native.Mathlib.Omega.{arith}
-use borrow.Author.Count.{below_more}
 use lib.IntN.{pos}
-use lib.ListN.{length, get_or}
-use mir.Syntax.{w64}
-use mir.Val.{of_z}
-use Rattle.finding.specs.Keys.{item_at}
+use lib.ListN.{get_or}
 use Rattle.finding.proofs.compare_elements.Goals as goal
 
 pub returns-then-x-y : goal.returns-then-x-y

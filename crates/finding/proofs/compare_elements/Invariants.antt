@@ -1,10 +1,7 @@
 -- `finding::compare_elements` meets its contract. The loop's invariant: the items passed are the same, so the rest decides.
 -- Assumes nothing.
-use borrow.Author.Rules.{sfits_of}
-use Rattle.finding.proofs.ItemLaws.{Agree, run_small, items_less, items_greater, items_equal, elements_table, element_bits}
+use Rattle.finding.proofs.ItemLaws.{Agree}
 use Prim.Native.Nat.{◌+◌, ◌-◌, ◌≤◌}
-use native.Mathlib.Omega.{arith}
-use borrow.Author.Count.{below_more}
 use lib.IntN.{pos}
 use lib.ListN.{length, get_or}
 use mir.Syntax.{w64}

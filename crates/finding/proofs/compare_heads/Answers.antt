@@ -1,6 +1,5 @@
 -- `finding::compare_heads` meets its contract: the equations of its three calls. Assumes nothing.
 use Rattle.finding.specs.KeyOrder.{key_order}
-use borrow.Author.Rules.{rules}
 use Rattle.finding.proofs.compare_heads.Goals as goal
 
 pub returns : goal.returns

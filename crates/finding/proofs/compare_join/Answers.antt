@@ -2,7 +2,6 @@
 use Rattle.decimals.specs.declared.Order.TheVariants.{Less, Equal, Greater}
 use Rattle.finding.proofs.HeadLaws.{candidate_key_lem, run_inside, Against, counted_run}
 use Rattle.finding.proofs.HeadLaws.{settled_less, settled_equal, settled_greater}
-use borrow.Author.Rules.{rules}
 use lib.ListN.{length}
 use mathlib.Core.Path.{refl}
 use Rattle.finding.proofs.compare_join.Goals as goal

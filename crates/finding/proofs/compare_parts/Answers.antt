@@ -3,7 +3,6 @@ use Rattle.decimals.specs.declared.Order.TheVariants.{Less, Equal, Greater}
 use Rattle.finding.proofs.HeadLaws.{part_key, run_inside, run_items, Against, own_run, other_run}
 use Rattle.finding.proofs.HeadLaws.{settled_less, settled_equal, settled_greater}
 use Rattle.finding.specs.KeyOrder.{key_order}
-use borrow.Author.Rules.{rules}
 use mathlib.Core.Path.{refl, ap, ◌∙◌}
 use Rattle.finding.proofs.compare_parts.Goals as goal
 

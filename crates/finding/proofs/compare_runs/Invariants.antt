@@ -1,9 +1,6 @@
 -- `finding::compare_runs` meets its contract. The loop's invariant: the items passed are the same, so the rest decides. Assumes nothing.
-use Rattle.finding.proofs.ItemLaws.{Agree, run_small, items_less, items_greater, items_equal}
-use mathlib.Core.Path.{refl}
+use Rattle.finding.proofs.ItemLaws.{Agree}
 use Prim.Native.Nat.{◌+◌, ◌-◌, ◌≤◌}
-use native.Mathlib.Omega.{arith}
-use borrow.Author.Count.{below_more}
 use Rattle.finding.specs.Keys.{item_at}
 use Rattle.finding.proofs.compare_runs.Given as goal
 

@@ -1,17 +1,15 @@
 -- `finding::find` meets its contract. The loop's invariant: the entries before `low` hold less than the candidate, those from
 -- `high` on hold more. Assumes nothing.
-use mathlib.Core.Path.{◌≡◌, refl, sym, ap, ◌∙◌, subst}
+use mathlib.Core.Path.{◌≡◌, refl, sym, subst}
 use Prim.Native.Nat.{ℕ, ◌+◌, ◌-◌, ◌/◌}
 use native.Mathlib.Omega.{arith}
-use borrow.Author.Rules.{rules}
-use Rattle.store.specs.Records.{part_count, entry_at}
-use Rattle.decimals.specs.declared.Order.{Order}
+use Rattle.store.specs.Records.{entry_at}
 use Rattle.decimals.specs.declared.Order.TheVariants.{Less, Equal, Greater}
 use Rattle.finding.specs.declared.Found.TheVariants.{At}
 use Rattle.finding.specs.KeyOrder.{key_order}
-use Rattle.finding.specs.Keys.{key_at, Inside, candidate_key}
+use Rattle.finding.specs.Keys.{key_at, candidate_key}
 use Rattle.finding.specs.Finding.{FoundRight}
-use Rattle.finding.specs.FindingLaws.{Between, between_start, between_end, middle_less, middle_equal, middle_greater}
+use Rattle.finding.specs.FindingLaws.{between_end, middle_less, middle_equal, middle_greater}
 use Rattle.finding.proofs.find.Goals as goal
 
 pub loop-low-preserved-in-Less : goal.loop-low-preserved-in-Less

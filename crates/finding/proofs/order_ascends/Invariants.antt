@@ -1,13 +1,9 @@
 -- `finding::order_ascends` meets its contract. The loop's invariant: the entries passed are tested. Assumes nothing.
-use mathlib.Core.Path.{◌≡◌, sym, ◌∙◌}
+use mathlib.Core.Path.{◌≡◌}
 use mathlib.Core.Bool.{true}
 use Prim.Native.Nat.{◌-◌, ◌≤◌}
-use native.Mathlib.Omega.{arith}
-use borrow.Author.Tests.{not-true, not-false}
 use Rattle.lists.specs.Below.{all_below}
-use Rattle.lists.specs.BelowLaws.{below_none}
 use Rattle.finding.specs.Ascent.{entry_b}
-use Rattle.finding.proofs.MarkLaws.{mark_past, mark_falls, mark_more, mark_neighbours, mark_whole}
 use Rattle.finding.proofs.order_ascends.Given as goal
 
 abbrev pub invariant-loop-k : goal.invariant-loop-k

@@ -1,11 +1,8 @@
 -- `finding::rises` meets its contract. Assumes nothing.
-use mathlib.Core.Path.{sym, ap, ◌∙◌, subst}
-use Prim.Native.Nat.{◌-◌}
+use mathlib.Core.Path.{ap, ◌∙◌}
 use native.Mathlib.Omega.{arith}
 use Rattle.finding.specs.KeyOrder.{is_less}
-use Rattle.finding.specs.Keys.{Inside}
 use Rattle.finding.proofs.MarkLaws.{rises_first, rises_after}
-use borrow.Author.Rules.{rules}
 use Rattle.finding.proofs.rises.Goals as goal
 
 pub returns-then-k-eq0 : goal.returns-then-k-eq0

@@ -1,6 +1,6 @@
 -- `sheets::natural` meets its contract: by the test on the sign. Assumes nothing.
 use mir.Facts.{to_z-of_z}
-use Rattle.sheets.proofs.SignLaws.{below_zero, not_below, not_below_fits, not_below_natural_of}
+use Rattle.sheets.proofs.SignLaws.{below_zero, not_below_natural_of}
 use Rattle.sheets.proofs.natural.Goals as goal
 
 pub returns-then-x-lt0 : goal.returns-then-x-lt0

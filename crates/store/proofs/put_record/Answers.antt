@@ -1,6 +1,5 @@
 -- `store::put_record` meets its contract. Assumes nothing.
 use Rattle.store.specs.Records.{put_record_in}
-use borrow.Author.Rules.{rules}
 use Rattle.store.proofs.put_record.Goals as goal
 
 pub returns : goal.returns

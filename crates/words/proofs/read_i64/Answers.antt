@@ -4,7 +4,6 @@ use mir.Syntax.{w64}
 use mir.Val.{to_z}
 use mir.ValLaws.{to_z-of_z}
 use Rattle.words.specs.Word.{signed_word}
-use borrow.Author.Rules.{rules}
 use Rattle.words.proofs.read_i64.Goals as goal
 
 pub returns : goal.returns

@@ -1,7 +1,6 @@
 -- `words::read_u16` meets its contract. Assumes nothing.
 use native.Mathlib.Omega.{arith}
 use Rattle.words.proofs.WordLaws.{word_split}
-use borrow.Author.Rules.{rules}
 use Rattle.words.proofs.read_u16.Goals as goal
 
 pub returns : goal.returns

@@ -5,7 +5,6 @@ use mir.ValLaws.{to_z-of_z}
 use mathlib.Core.Path.{ap, ◌∙◌}
 use Prim.Native.Nat.{ℕ}
 use Rattle.words.specs.Word.{put, put_signed}
-use borrow.Author.Rules.{rules}
 use Rattle.words.proofs.write_i64.Goals as goal
 
 pub returns : goal.returns

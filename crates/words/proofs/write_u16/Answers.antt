@@ -1,6 +1,5 @@
 -- `words::write_u16` meets its contract. Assumes nothing.
 use Rattle.words.proofs.WordLaws.{put_two}
-use borrow.Author.Rules.{rules}
 use Rattle.words.proofs.write_u16.Goals as goal
 
 pub returns : goal.returns

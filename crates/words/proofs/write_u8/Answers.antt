@@ -1,7 +1,6 @@
 -- `words::write_u8` meets its contract. Assumes nothing.
 use native.Mathlib.Nat.{mod-eq_of_lt}
 use Rattle.words.specs.Word.{put}
-use borrow.Author.Rules.{rules}
 use Rattle.words.proofs.write_u8.Goals as goal
 
 pub returns : goal.returns

@@ -1,14 +1,10 @@
 -- `predicates::elements::all_of` meets its contract: the loop keeps whether the one rest is inside the other. Assumes nothing.
-use mathlib.Core.Path.{◌≡◌, refl, sym, ◌∙◌}
-use Prim.Native.Nat.{◌+◌, ◌-◌, ◌≤◌}
+use mathlib.Core.Path.{sym, ◌∙◌}
 use native.Mathlib.Omega.{arith}
-use borrow.Author.Rules.{rules, sfits_of}
+use borrow.Author.Rules.{sfits_of}
 use mir.Syntax.{w64}
 use mir.ValLaws.{to_z-of_z}
 use mir.Facts.{to_z-of_z as read_back}
-use lib.ListN.{length, drop}
-use Rattle.predicates.specs.Integers.{integers_of}
-use Rattle.lists.specs.Sets.{inside}
 use Rattle.lists.proofs.MergingLaws.{inside_merges, skip_right, inside_not, inside_both, inside_over, inside_end, longer}
 use Rattle.predicates.proofs.elements.all_of.Goals as goal
 

@@ -1,13 +1,8 @@
 -- `predicates::elements::member` meets its contract: the loop keeps what is known of the places outside the two bounds. Assumes nothing.
 use mathlib.Core.Path.{◌∙◌}
-use Prim.Native.Nat.{◌-◌}
-use native.Mathlib.Omega.{arith}
-use borrow.Author.Rules.{rules}
 use mir.Syntax.{w64}
-use mir.Val.{to_z}
 use mir.ValLaws.{to_z-of_z}
-use Rattle.lists.proofs.HalvingLaws.{Between, whole, up, down, met, nowhere}
-use Rattle.predicates.specs.Integers.{integers_of}
+use Rattle.lists.proofs.HalvingLaws.{up, down, met, nowhere}
 use Rattle.predicates.proofs.elements.member.Goals as goal
 
 pub loop-low-preserved-then-y-x : goal.loop-low-preserved-then-y-x

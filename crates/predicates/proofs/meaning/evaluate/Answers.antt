@@ -2,7 +2,6 @@
 use mathlib.Core.Path.{sym, ap, ◌∙◌}
 use mathlib.Core.Bool.{true}
 use Rattle.predicates.specs.Meaning.{truth_of, evaluate_of}
-use borrow.Author.Rules.{rules}
 use Rattle.predicates.proofs.meaning.evaluate.Goals as goal
 
 pub returns-then-has_answer : goal.returns-then-has_answer

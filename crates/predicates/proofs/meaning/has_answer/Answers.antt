@@ -3,7 +3,6 @@ use mathlib.Core.Path.{ap₂, ◌∙◌}
 use mathlib.Core.Bool.{◌||◌}
 use Rattle.predicates.specs.Suits.{suits_of}
 use Rattle.predicates.specs.Meaning.{answers}
-use borrow.Author.Rules.{rules}
 use Rattle.predicates.proofs.meaning.has_answer.Goals as goal
 
 pub returns : goal.returns

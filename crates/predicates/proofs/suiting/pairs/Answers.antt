@@ -3,7 +3,6 @@ use mathlib.Core.Path.{ap}
 use lib.Dec.{eqb}
 use borrow.Author.Tests.{eq-eqb, ne_eqb}
 use Rattle.predicates.specs.Suits.{pair}
-use borrow.Author.Rules.{rules}
 use Rattle.predicates.proofs.suiting.pairs.Goals as goal
 
 pub returns-then-tag-wanted : goal.returns-then-tag-wanted

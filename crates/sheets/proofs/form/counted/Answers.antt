@@ -1,7 +1,5 @@
 -- `sheets::form::counted` meets its contract. Assumes nothing.
 use mathlib.Core.Path.{sym, ◌∙◌}
-use borrow.Author.Tests.{not-true, not-false}
-use borrow.Author.Rules.{rules}
 use Rattle.sheets.specs.Form.{counted_answer}
 use Rattle.sheets.proofs.FormLaws.{formed_told}
 use Rattle.sheets.proofs.form.counted.Goals as goal

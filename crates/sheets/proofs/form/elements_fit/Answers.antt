@@ -1,7 +1,6 @@
 -- `sheets::form::elements_fit` meets its contract. Assumes nothing.
 use mathlib.Core.Path.{refl, sym, ◌∙◌}
-use borrow.Author.Tests.{not-true, not-false, eq-eqb, ne_eqb}
-use borrow.Author.Rules.{rules}
+use borrow.Author.Tests.{eq-eqb, ne_eqb}
 use Rattle.lists.specs.AndLaws.{and_first, and_skip, and_both}
 use Rattle.sheets.specs.Bodies.{elements_fit}
 use Rattle.sheets.proofs.form.elements_fit.Goals as goal

@@ -1,12 +1,8 @@
 -- `sheets::form::entries_fit` meets its contract. The invariant: each entry passed may stand in a sheet. Assumes nothing.
-use mathlib.Core.Path.{◌≡◌, sym, ◌∙◌}
+use mathlib.Core.Path.{◌≡◌}
 use mathlib.Core.Bool.{true}
 use Prim.Native.Nat.{◌-◌, ◌≤◌}
-use native.Mathlib.Omega.{arith}
-use borrow.Author.Tests.{not-true, not-false}
-use borrow.Author.Rules.{rules}
 use Rattle.lists.specs.Below.{all_below}
-use Rattle.lists.specs.BelowLaws.{below_none, below_more, below_broken}
 use Rattle.sheets.specs.WellFormed.{entry_fits_at}
 use Rattle.sheets.proofs.form.entries_fit.Given as goal
 

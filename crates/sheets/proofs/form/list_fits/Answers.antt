@@ -2,8 +2,6 @@
 use mathlib.Core.Path.{◌≡◌, sym, ap, ◌∙◌}
 use Prim.Native.Nat.{ℕ, ◌+◌, ◌-◌, ◌<◌, ◌≤◌}
 use native.Mathlib.Omega.{arith}
-use borrow.Author.Tests.{not-true, not-false}
-use borrow.Author.Rules.{rules}
 use lib.ListN.{length, take, drop}
 use Rattle.sheets.specs.Bodies.{elements_fit}
 use Rattle.sheets.proofs.ListFitsLaws.{fits_unlisted, fits_elsewhere, fits_past, fits_listed}

@@ -1,6 +1,5 @@
 -- `sheets::form::list_length` meets its contract. Assumes nothing.
 use mathlib.Core.Path.{sym, ◌∙◌}
-use borrow.Author.Rules.{rules}
 use Rattle.sheets.specs.BodiesLaws.{length_listed, length_unlisted}
 use Rattle.sheets.proofs.form.list_length.Goals as goal
 

@@ -2,14 +2,11 @@
 -- Assumes nothing.
 use mathlib.Core.Path.{◌≡◌, refl, sym, ap, ◌∙◌}
 use mathlib.Core.Bool.{true, false}
-use Prim.Native.Nat.{ℕ, ◌+◌, ◌-◌, ◌≤◌}
+use Prim.Native.Nat.{ℕ, ◌+◌}
 use native.Mathlib.Omega.{arith}
-use borrow.Author.Tests.{not-true, not-false}
-use borrow.Author.Rules.{rules}
 use lib.Dec.{eqb}
 use lib.ListN.{length}
 use Rattle.lists.specs.AndLaws.{and_first, and_skip}
-use Rattle.lists.specs.Below.{all_below}
 use Rattle.lists.specs.BelowLaws.{below_none, below_more, below_broken}
 use Rattle.sheets.specs.Bodies.{start_at, bodies_at}
 use Rattle.sheets.specs.Form.{list_fits_at, lists_fit}

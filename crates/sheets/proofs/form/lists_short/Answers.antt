@@ -1,15 +1,11 @@
 -- `sheets::form::lists_short` meets its contract. The invariant: each list passed is short enough. Assumes nothing.
-use mathlib.Core.Path.{◌≡◌, sym}
-use mathlib.Core.Bool.{true}
-use Prim.Native.Nat.{◌-◌, ◌≤◌, ◌<◌}
+use mathlib.Core.Path.{sym}
+use Prim.Native.Nat.{◌≤◌, ◌<◌}
 use native.Mathlib.Omega.{arith}
 use borrow.Author.Tests.{lt-leb, le-leb}
-use borrow.Author.Rules.{rules}
-use Rattle.lists.specs.Below.{all_below}
 use Rattle.lists.specs.BelowLaws.{below_none, below_more, below_broken}
 use Rattle.lists.specs.Sets.{list_limit}
 use Rattle.sheets.specs.Bodies.{list_length_at}
-use Rattle.sheets.specs.Form.{list_short}
 use Rattle.sheets.proofs.form.lists_short.Goals as goal
 
 pub loop-i-init : goal.loop-i-init

@@ -1,19 +1,10 @@
 -- `sheets::form::one_tree` meets its contract. The invariant: the count is of the subtrees owed, and each entry passed was owed.
 -- Assumes nothing.
-use mathlib.Core.Path.{◌≡◌, sym, ap, ◌∙◌}
+use mathlib.Core.Path.{◌≡◌}
 use mathlib.Core.Bool.{true}
-use Prim.Native.Nat.{◌-◌, ◌≤◌, ℕ, ◌+◌, ◌<◌}
-use native.Mathlib.Omega.{arith}
-use borrow.Author.Tests.{le-ltb, lt-ltb}
-use borrow.Author.Rules.{rules}
-use lib.Dec.{eqb}
+use Prim.Native.Nat.{◌-◌, ◌≤◌, ◌+◌}
 use Rattle.lists.specs.Below.{all_below}
-use Rattle.lists.specs.BelowLaws.{below_none, below_more, below_broken}
-use Rattle.lists.specs.AndLaws.{and_first, and_skip}
-use Rattle.sheets.specs.Entries.{kind_of}
-use Rattle.sheets.specs.Spells.{shape_of}
-use Rattle.sheets.specs.Form.{subtrees, owed_at, owes, one_tree}
-use Rattle.sheets.proofs.OwedLaws.{subtrees_most, owed_first, owed_next}
+use Rattle.sheets.specs.Form.{owed_at, owes}
 use Rattle.sheets.proofs.form.one_tree.Given as goal
 
 abbrev pub invariant-loop-i : goal.invariant-loop-i

@@ -1,7 +1,6 @@
 -- `sheets::form::well_formed` meets its contract. Assumes nothing.
 use mathlib.Core.Path.{sym, ◌∙◌}
-use borrow.Author.Tests.{lt-leb, le-leb, not-true, not-false}
-use borrow.Author.Rules.{rules}
+use borrow.Author.Tests.{lt-leb, le-leb}
 use Rattle.lists.specs.AndLaws.{and_first, and_second, and_skip, and_both}
 use Rattle.sheets.specs.Form.{is_well_formed}
 use Rattle.sheets.proofs.form.well_formed.Goals as goal

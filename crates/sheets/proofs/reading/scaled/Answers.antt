@@ -1,7 +1,7 @@
 -- `sheets::reading::scaled` meets its contract. Assumes nothing.
 use mathlib.Core.Path.{ap, ◌∙◌}
 use Prim.Native.Nat.{ℕ, ◌+◌, ◌*◌}
-use borrow.Author.Rules.{rules, sfits_of}
+use borrow.Author.Rules.{sfits_of}
 use mir.Syntax.{w64}
 use mir.Facts.{to_z-of_z}
 use lib.ListN.{get_or}

@@ -1,15 +1,9 @@
 -- `sheets::suiting::check_predicates` meets its contract. The invariant: no entry passed is refused. Assumes nothing.
-use mathlib.Core.Path.{◌≡◌, sym, ap, ◌∙◌}
+use mathlib.Core.Path.{◌≡◌}
 use Prim.Native.Nat.{◌-◌, ◌≤◌}
-use native.Mathlib.Omega.{arith}
-use borrow.Author.Rules.{rules}
-use Rattle.error.specs.Answers.{Done, number}
-use Rattle.error.proofs.AnswersLaws.{one_number_each}
+use Rattle.error.specs.Answers.{Done}
 use Rattle.sheets.specs.WellFormed.{count_of}
-use Rattle.sheets.proofs.AnswersLaws.{accepted}
-use Rattle.sheets.specs.ReadingLaws.{readable}
-use Rattle.sheets.specs.Suiting.{entry_answer, entries_answer}
-use Rattle.sheets.proofs.SuitingLaws.{entries_none, entries_more, entries_refused}
+use Rattle.sheets.specs.Suiting.{entries_answer}
 use Rattle.sheets.proofs.suiting.check_predicates.Given as goal
 
 abbrev pub invariant-loop-i : goal.invariant-loop-i

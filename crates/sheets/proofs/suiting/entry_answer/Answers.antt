@@ -1,7 +1,6 @@
 -- `sheets::suiting::entry_answer` meets its contract. Assumes nothing.
 use mathlib.Core.Path.{◌≡◌, sym, ap}
 use mathlib.Core.Bool.{true, false}
-use borrow.Author.Rules.{rules}
 use Rattle.error.specs.Answers.{number}
 use Rattle.attributes.specs.Table.{is_between}
 use Rattle.sheets.specs.Entries.{kind_of}

@@ -4,7 +4,6 @@ use mathlib.Core.Bool.{true, false}
 use Prim.Native.Nat.{◌≤◌, ◌<◌}
 use native.Mathlib.Omega.{arith}
 use borrow.Author.Tests.{lt-ltb, le-ltb}
-use borrow.Author.Rules.{rules}
 use Rattle.attributes.specs.Table.{kind_at, count_of as attributesIn}
 use Rattle.predicates.specs.Kinds.{kind_of as kindNumbered}
 use Rattle.predicates.specs.Suits.{suits_of}

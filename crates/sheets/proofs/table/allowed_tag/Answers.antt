@@ -1,5 +1,4 @@
 -- `sheets::table::allowed_tag` meets its contract. Assumes nothing.
-use borrow.Author.Rules.{rules}
 use Rattle.sheets.specs.Table.{allowed}
 use Rattle.sheets.proofs.table.allowed_tag.Goals as goal
 

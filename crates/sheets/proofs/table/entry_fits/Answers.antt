@@ -1,6 +1,5 @@
 -- `sheets::table::entry_fits` meets its contract. Assumes nothing.
 use mathlib.Core.Path.{sym, ◌∙◌}
-use borrow.Author.Rules.{rules}
 use Rattle.sheets.specs.Table.{entry_fits}
 use Rattle.sheets.proofs.table.entry_fits.Goals as goal
 

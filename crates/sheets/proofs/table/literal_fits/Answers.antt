@@ -1,6 +1,5 @@
 -- `sheets::table::literal_fits` meets its contract, tag by tag. Assumes nothing.
 use borrow.Author.Tests.{ne_eqb}
-use borrow.Author.Rules.{rules}
 use Rattle.sheets.specs.Table.{literal_fits}
 use Rattle.sheets.proofs.table.literal_fits.Goals as goal
 
