@@ -1,7 +1,8 @@
 // Readings of every kind for every attribute, at their limits and past them; unknown names; lists that are not in order.
-use crate::{showing, writing};
+use crate::showing;
 use events::{Event, StringId};
 use filling::Reading;
+use std::io;
 
 // Thirty-three elements, of which the first 32 are as many as a list may have.
 const LONG: [i64; 33] = [
@@ -10,19 +11,23 @@ const LONG: [i64; 33] = [
 ];
 
 // Hands in a reading, and writes the name, the answer and the event after.
-pub fn given(table: &[u8], event: Event, name: &[u8], reading: Reading, list: &[i64]) -> Event {
+pub fn given(
+    rt: &impl Print,
+    table: &[u8],
+    event: Event,
+    name: &str,
+    reading: Reading,
+    list: &[i64],
+) -> io::Result<Event> {
     if !attributes::is_sound(table) {
-        writing::text(b"damaged\n");
-        return event;
+        println!(rt; "damaged")?;
+        return Ok(event);
     }
-    let filled = filling::fill(table, event, name, reading, list);
-    writing::text(name);
-    writing::text(b" ");
-    writing::integer(filled.answer as i64);
-    writing::text(b":");
+    let filled = filling::fill(table, event, name.as_bytes(), reading, list);
+    print!(rt; "{name} {}:", filled.answer)?;
     let next = filled.event;
-    showing::event(next);
-    next
+    showing::event(rt, next)?;
+    Ok(next)
 }
 
 // A reading of each kind, by the kind's number.
@@ -39,68 +44,80 @@ fn of_kind(kind: usize) -> Reading {
 }
 
 // Readings of every kind for one attribute.
-fn every_kind(table: &[u8], event: Event, name: &[u8]) -> Event {
+fn every_kind(rt: &impl Print, table: &[u8], event: Event, name: &str) -> io::Result<Event> {
     let mut next = event;
     let mut kind: usize = 0;
     while kind < 7 {
-        next = given(table, next, name, of_kind(kind), &[9, 3, 9, 0, 3]);
+        next = given(rt, table, next, name, of_kind(kind), &[9, 3, 9, 0, 3])?;
         kind += 1;
     }
-    next
+    Ok(next)
 }
 
-fn kinds(table: &[u8], event: Event) -> Event {
-    let humidity = every_kind(table, event, b"humidity");
-    let rain = every_kind(table, humidity, b"rain");
-    let wind = every_kind(table, rain, b"wind");
-    let site = every_kind(table, wind, b"site");
-    let flags = every_kind(table, site, b"flags");
-    every_kind(table, flags, b"sky")
+fn kinds(rt: &impl Print, table: &[u8], event: Event) -> io::Result<Event> {
+    let humidity = every_kind(rt, table, event, "humidity")?;
+    let rain = every_kind(rt, table, humidity, "rain")?;
+    let wind = every_kind(rt, table, rain, "wind")?;
+    let site = every_kind(rt, table, wind, "site")?;
+    let flags = every_kind(rt, table, site, "flags")?;
+    every_kind(rt, table, flags, "sky")
 }
 
-fn scales(table: &[u8], event: Event) -> Event {
-    let whole = given(table, event, b"humidity", Reading::Float(85, 0), &[]);
-    let finest = given(table, whole, b"humidity", Reading::Float(-1, 28), &[]);
-    let past = given(table, finest, b"humidity", Reading::Float(1, 29), &[]);
-    let negative = given(table, past, b"humidity", Reading::Float(1, -1), &[]);
-    given(table, negative, b"rain", Reading::Float(1, 29), &[])
+fn scales(rt: &impl Print, table: &[u8], event: Event) -> io::Result<Event> {
+    let whole = given(rt, table, event, "humidity", Reading::Float(85, 0), &[])?;
+    let finest = given(rt, table, whole, "humidity", Reading::Float(-1, 28), &[])?;
+    let past = given(rt, table, finest, "humidity", Reading::Float(1, 29), &[])?;
+    let negative = given(rt, table, past, "humidity", Reading::Float(1, -1), &[])?;
+    given(rt, table, negative, "rain", Reading::Float(1, 29), &[])
 }
 
-fn words(table: &[u8], event: Event) -> Event {
-    let none = given(table, event, b"site", Reading::String(StringId(0)), &[]);
-    let past = given(table, none, b"site", Reading::String(StringId(65536)), &[]);
-    let negative = given(table, past, b"site", Reading::String(StringId(-1)), &[]);
-    let least = given(table, negative, b"sky", Reading::StringList, &[65535, 0]);
-    let over = given(table, least, b"sky", Reading::StringList, &[65536, 0]);
-    given(table, over, b"sky", Reading::StringList, &[1, -1])
+fn words(rt: &impl Print, table: &[u8], event: Event) -> io::Result<Event> {
+    let none = given(rt, table, event, "site", Reading::String(StringId(0)), &[])?;
+    let past = given(
+        rt,
+        table,
+        none,
+        "site",
+        Reading::String(StringId(65536)),
+        &[],
+    )?;
+    let negative = given(rt, table, past, "site", Reading::String(StringId(-1)), &[])?;
+    let least = given(rt, table, negative, "sky", Reading::StringList, &[65535, 0])?;
+    let over = given(rt, table, least, "sky", Reading::StringList, &[65536, 0])?;
+    given(rt, table, over, "sky", Reading::StringList, &[1, -1])
 }
 
-fn lengths(table: &[u8], event: Event) -> Event {
-    let empty = given(table, event, b"flags", Reading::IntegerList, &[]);
-    let full = given(table, empty, b"flags", Reading::IntegerList, &LONG[..32]);
-    let past = given(table, full, b"flags", Reading::IntegerList, &LONG);
-    let words = given(table, past, b"sky", Reading::StringList, &LONG[1..]);
-    let repeats = given(table, words, b"sky", Reading::StringList, &[7; 33]);
-    given(table, repeats, b"wind", Reading::Integer(4), &LONG)
+fn lengths(rt: &impl Print, table: &[u8], event: Event) -> io::Result<Event> {
+    let empty = given(rt, table, event, "flags", Reading::IntegerList, &[])?;
+    let full = given(rt, table, empty, "flags", Reading::IntegerList, &LONG[..32])?;
+    let past = given(rt, table, full, "flags", Reading::IntegerList, &LONG)?;
+    let words = given(rt, table, past, "sky", Reading::StringList, &LONG[1..])?;
+    let repeats = given(rt, table, words, "sky", Reading::StringList, &[7; 33])?;
+    given(rt, table, repeats, "wind", Reading::Integer(4), &LONG)
 }
 
-fn names(table: &[u8], event: Event) -> Event {
-    let empty = given(table, event, b"", Reading::Integer(1), &[]);
+fn names(rt: &impl Print, table: &[u8], event: Event) -> io::Result<Event> {
+    let empty = given(rt, table, event, "", Reading::Integer(1), &[])?;
     let long = given(
+        rt,
         table,
         empty,
-        b"windwindwindwindwindwindwindwindw",
+        "windwindwindwindwindwindwindwindw",
         Reading::Integer(1),
         &[],
-    );
-    let part = given(table, long, b"win", Reading::Float(1, 29), &[]);
-    given(table, part, b"wind ", Reading::Undefined, &[])
+    )?;
+    let part = given(rt, table, long, "win", Reading::Float(1, 29), &[])?;
+    given(rt, table, part, "wind ", Reading::Undefined, &[])
 }
 
-pub fn run(table: &[u8; attributes::TABLE_SIZE], event: Event) -> Event {
-    let kinds = kinds(table, event);
-    let scales = scales(table, kinds);
-    let words = words(table, scales);
-    let lengths = lengths(table, words);
-    names(table, lengths)
+pub fn run(
+    rt: &impl Print,
+    table: &[u8; attributes::TABLE_SIZE],
+    event: Event,
+) -> io::Result<Event> {
+    let kinds = kinds(rt, table, event)?;
+    let scales = scales(rt, table, kinds)?;
+    let words = words(rt, table, scales)?;
+    let lengths = lengths(rt, table, words)?;
+    names(rt, table, lengths)
 }

@@ -8,66 +8,73 @@ mod showing;
 mod writing;
 
 use attributes::{AttributeKind, Definition};
-use events::Event;
+use std::io;
 
 // Defines one attribute of the trials, with a name of at most 32 bytes.
 fn defined(
+    rt: &impl Print,
     table: &mut [u8; attributes::TABLE_SIZE],
     name: [u8; 32],
     length: usize,
     kind: AttributeKind,
-) {
+) -> io::Result<()> {
     let answer = attributes::define(table, Definition { name, length, kind });
-    writing::integer(answer as i64);
+    print!(rt; "{answer}")
 }
 
 // The six attributes of the trials.
-fn trial_table(table: &mut [u8; attributes::TABLE_SIZE]) {
+fn trial_table(rt: &impl Print, table: &mut [u8; attributes::TABLE_SIZE]) -> io::Result<()> {
     defined(
+        rt,
         table,
         *b"humidity                        ",
         8,
         AttributeKind::Float,
-    );
+    )?;
     defined(
+        rt,
         table,
         *b"rain                            ",
         4,
         AttributeKind::Boolean,
-    );
+    )?;
     defined(
+        rt,
         table,
         *b"wind                            ",
         4,
         AttributeKind::Integer,
-    );
+    )?;
     defined(
+        rt,
         table,
         *b"site                            ",
         4,
         AttributeKind::String,
-    );
+    )?;
     defined(
+        rt,
         table,
         *b"flags                           ",
         5,
         AttributeKind::IntegerList,
-    );
+    )?;
     defined(
+        rt,
         table,
         *b"sky                             ",
         3,
         AttributeKind::StringList,
-    );
-    writing::text(b"\n");
+    )?;
+    println!(rt)
 }
 
-fn main() {
+fn main(rt: HostRuntime) -> io::Result<()> {
     let mut table = [0u8; attributes::TABLE_SIZE];
-    trial_table(&mut table);
+    trial_table(&rt, &mut table)?;
     let fresh = events::fresh(6);
-    showing::event(fresh);
-    let event = filled::run(&table, fresh);
-    let event = dated::run(&table, event);
-    damaged::run(&table, event);
+    showing::event(&rt, fresh)?;
+    let event = filled::run(&rt, &table, fresh)?;
+    let event = dated::run(&rt, &table, event)?;
+    damaged::run(&rt, &table, event)
 }

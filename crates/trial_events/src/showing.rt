@@ -1,47 +1,37 @@
 // What an event holds, written.
 use crate::writing;
 use events::{AttributeValue, Event};
+use std::io;
 
-fn elements(list: &[i64]) {
+fn elements(rt: &impl Print, list: &[i64]) -> io::Result<()> {
     let mut i: usize = 0;
     while i < list.len() {
-        writing::text(b" ");
-        writing::integer(list[i]);
+        print!(rt; " {}", list[i])?;
         i += 1;
     }
+    Ok(())
 }
 
-fn value(value: AttributeValue, list: &[i64]) {
+fn value(rt: &impl Print, value: AttributeValue, list: &[i64]) -> io::Result<()> {
     match value {
-        AttributeValue::Undefined => writing::text(b" undefined"),
-        AttributeValue::Boolean(truth) => writing::truth(truth),
-        AttributeValue::Integer(number) => {
-            writing::text(b" integer ");
-            writing::integer(number);
-        }
-        AttributeValue::Float(decimal) => {
-            writing::text(b" float ");
-            writing::integer(decimal.number);
-            writing::text(b" ");
-            writing::integer(decimal.scale as i64);
-        }
-        AttributeValue::String(word) => {
-            writing::text(b" word ");
-            writing::integer(word.0);
-        }
+        AttributeValue::Undefined => print!(rt; " undefined"),
+        AttributeValue::Boolean(truth) => writing::truth(rt, truth),
+        AttributeValue::Integer(number) => print!(rt; " integer {number}"),
+        AttributeValue::Float(decimal) => print!(rt; " float {} {}", decimal.number, decimal.scale),
+        AttributeValue::String(word) => print!(rt; " word {}", word.0),
         AttributeValue::IntegerList => {
-            writing::text(b" integers");
-            elements(list);
+            print!(rt; " integers")?;
+            elements(rt, list)
         }
         AttributeValue::StringList => {
-            writing::text(b" words");
-            elements(list);
+            print!(rt; " words")?;
+            elements(rt, list)
         }
     }
 }
 
 // The values of the six attributes of the trials.
-pub fn event(event: Event) {
+pub fn event(rt: &impl Print, event: Event) -> io::Result<()> {
     let kinds = event.kinds;
     let numbers = event.numbers;
     let scales = event.scales;
@@ -50,9 +40,9 @@ pub fn event(event: Event) {
     let mut i: usize = 0;
     while i < 6 {
         let held = events::value_at(&kinds, &numbers, &scales, i);
-        value(held, events::list_at(&lists, &lengths, i));
-        writing::text(b";");
+        value(rt, held, events::list_at(&lists, &lengths, i))?;
+        print!(rt; ";")?;
         i += 1;
     }
-    writing::text(b"\n");
+    println!(rt)
 }

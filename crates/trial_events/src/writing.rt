@@ -1,25 +1,10 @@
-// Writing numbers and words to standard output.
-use libc::STDOUT_FILENO;
+// Writing words to standard output.
+use std::io;
 
-pub fn text(bytes: &[u8]) {
-    io::write_all(STDOUT_FILENO, bytes);
-}
-
-// A number whose highest bit is set is a negative one, counted from the end.
-pub fn integer(x: i64) {
-    let bits = words::unsigned(x);
-    if bits < 9223372036854775808 {
-        io::print_decimal(STDOUT_FILENO, bits);
-    } else {
-        text(b"-");
-        io::print_decimal(STDOUT_FILENO, 18446744073709551615 - bits + 1);
-    }
-}
-
-pub fn truth(b: bool) {
+pub fn truth(rt: &impl Print, b: bool) -> io::Result<()> {
     if b {
-        text(b" yes");
+        print!(rt; " yes")
     } else {
-        text(b" no");
+        print!(rt; " no")
     }
 }
