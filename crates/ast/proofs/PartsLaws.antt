@@ -80,7 +80,8 @@ module _ {Q : Type 0} where
   covered_all {m = m} h k = all_flat_map subexpressions (all_map (λ f p. one f p.0 p.1) (all_both h k))
     where
       one : (f : Flat Q) → ((g : Flat Q) → Same f g → Covered f g) → Any (Same f) m → Cover Same (subexpressions f) (subexpressions_of m)
-      one f c a = all_map (λ s b. any_flat_map subexpressions m (any_at {Q = λ g. Any (Same s) (subexpressions g)} a b)) (c (at a) (holds a))
+      one f c a =
+          all_map (λ s b. any_flat_map subexpressions m (any_at {Q = λ g. Any (Same s) (subexpressions g)} a b)) (c (at a) (holds a))
 
   pub same_covered : (f g : Flat Q) → Same f g → Covered f g
   unfolding Same

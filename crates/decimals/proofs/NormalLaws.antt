@@ -91,6 +91,7 @@ pub compare_normal_right : (d e : Decimal) → e.scale ≤ scale_limit → compa
 unfolding compare_of
 compare_normal_right d e h = ap (order_z (units d)) (normal_units e h)
 
-pub compare_normal : (d e : Decimal) → d.scale ≤ scale_limit → e.scale ≤ scale_limit → compare_of (normal_of d) (normal_of e) ≡ compare_of d e
+pub compare_normal : (d e : Decimal) → d.scale ≤ scale_limit → e.scale ≤ scale_limit
+    → compare_of (normal_of d) (normal_of e) ≡ compare_of d e
 unfolding compare_of
 compare_normal d e hd he = ap₂ order_z (normal_units d hd) (normal_units e he)

@@ -47,7 +47,8 @@ exact : (x : ℤ) → ends_in_zero x ≡ true → quot_z x (pos 10) *ℤ pos 10 
 exact (pos n) e = ap pos (tenth n (eqb-true (n % 10) 0 e))
 exact (negsuc n) e = neg_times (suc n / 10) 10 ∙ ap (λ (k : ℕ). neg_ℤ (pos k)) (tenth (suc n) (eqb-true (suc n % 10) 0 e))
 
-step_units : (x : ℤ) (y : ℕ) → ends_in_zero x ≡ true → suc y ≤ scale_limit → units (decimal (quot_z x (pos 10)) y) ≡ units (decimal x (suc y))
+step_units : (x : ℤ) (y : ℕ) → ends_in_zero x ≡ true → suc y ≤ scale_limit
+    → units (decimal (quot_z x (pos 10)) y) ≡ units (decimal x (suc y))
 unfolding units
 step_units x y e h =
     let s : scale_limit - y ≡ suc (scale_limit - suc y) = omega arith in

@@ -2,7 +2,8 @@
 --     row_inside, row_outside                      a row of the list store is written, and every other stays
 --     fresh_shaped, fresh_undefined, fresh_suits   a fresh event has its shape and no value, and suits every table of as many attributes
 -- Assumes nothing.
-use Rattle.std.specs.Prelude.{◌≡◌, refl, ◌⊎◌, List, [], ◌∷◌, ◌++◌, ℕ, zero, suc, ◌+◌, ◌-◌, ◌*◌, ◌≤◌, ◌<◌, ℤ, pos, get_or, set, take, drop, replicate}
+use Rattle.std.specs.Prelude.{◌≡◌, refl, ◌⊎◌, List, [], ◌∷◌, ◌++◌, ℕ, zero, suc, ◌+◌, ◌-◌, ◌*◌, ◌≤◌, ◌<◌, ℤ, pos, get_or, set, take}
+use Rattle.std.specs.Prelude.{drop, replicate}
 use Rattle.std.proofs.Common.{sym, ap, ◌∙◌, ⊎_elim, append_assoc, arith, length-take-le, drop_at, take_at, drop-set-lt}
 use Rattle.std.proofs.Math.Logic.{inl, inr}
 use Rattle.std.proofs.Math.Decide.{dec_lt}

@@ -1,7 +1,6 @@
 -- THE ORDER TABLE ASCENDS: each of its first n entries is one of n parts, and each part that it names holds more than the one before.
--- `ascends_b` is the test, in one pass, and `Ascends` the facts; `AscentLaws` has that they are the same. The facts are stated over any keys
--- and any entries, so that they hold of a book before and after a change alike.
--- Assumes nothing.
+-- `ascends_b` is the test, in one pass, and `Ascends` the facts; `AscentLaws` has that they are the same. The facts are stated over any
+-- keys and any entries, so that they hold of a book before and after a change alike. Assumes nothing.
 use Rattle.std.specs.Prelude.{◌≡◌, Bool, true, List, ℕ, zero, suc, ◌+◌, ◌≤◌, ◌<◌, ltb}
 use Rattle.lists.specs.And.{◌and◌}
 use Rattle.lists.specs.Below.{all_below}

@@ -43,4 +43,5 @@ pub record Moved (limits : Limits) (b after : List ℕ) (kept : ℕ → Bool) (t
   pub keys : (p : ℕ) → Kept kept n p
       → key_at limits after (to p)
       ≡ key_of (record_at limits b p) (moved_items (is_join (record_at limits b p)) to (items_of limits b (record_at limits b p)))
-  pub children : (p : ℕ) → Kept kept n p → is_join (record_at limits b p) ≡ true → All (Kept kept n) (items_of limits b (record_at limits b p))
+  pub children : (p : ℕ) → Kept kept n p → is_join (record_at limits b p) ≡ true
+      → All (Kept kept n) (items_of limits b (record_at limits b p))

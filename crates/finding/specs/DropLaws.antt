@@ -98,7 +98,8 @@ module _ (kept : ℕ → Bool) (to : ℕ → ℕ) where
   kept_any {p} e (here {x = x} {xs = l} h) = subst (Any (λ y. to p ≡ y)) (sym (kept_first x l (ap kept (sym h) ∙ e))) (here (ap to h))
   kept_any {p} e (there {x = x} {xs = l} a) = go (kept x) (kept_any e a)
     where
-      go : (s : Bool) → Any (λ y. to p ≡ y) (kept_of kept to l) → Any (λ y. to p ≡ y) (cond s (to x ∷ kept_of kept to l) (kept_of kept to l))
+      go : (s : Bool) → Any (λ y. to p ≡ y) (kept_of kept to l)
+          → Any (λ y. to p ≡ y) (cond s (to x ∷ kept_of kept to l) (kept_of kept to l))
       go true r = there r
       go false r = r
 

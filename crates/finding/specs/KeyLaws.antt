@@ -35,7 +35,8 @@ same_fields r t items others f all =
     λ i. (kind i + 256 * (attribute i + 256 * (tag i + 256 * scale i))) ∷ number i ∷ length (all i) ∷ all i
 
 module _ (limits : Limits) (b : List ℕ) (p : ℕ) where
-  pub key_read : (content : Record) (items : List ℕ) → SameFields (record_at limits b p) content → (record_at limits b p).length ≡ length items
+  pub key_read : (content : Record) (items : List ℕ) → SameFields (record_at limits b p) content
+      → (record_at limits b p).length ≡ length items
       → ((k : ℕ) → k < length items → item_at (is_join content) limits b ((record_at limits b p).start + k) ≡ get_or items k 0)
       → key_at limits b p ≡ key_of content items
   unfolding key_at

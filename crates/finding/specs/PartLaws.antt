@@ -169,7 +169,8 @@ module _ (limits : Limits) (b : List ℕ) (y : Bytes b) where
   pub same_key_same_part : (p q : ℕ) → key_at limits b p ≡ key_at limits b q → part_at limits b p ≡ part_at limits b q
   unfolding key_at
   same_key_same_part p q e =
-      part_of limits b p ∙ key_settles (record_of p) (record_of q) (fits p) (fits q) (part_items p) (part_items q) e ∙ sym (part_of limits b q)
+      part_of limits b p ∙ key_settles (record_of p) (record_of q) (fits p) (fits q) (part_items p) (part_items q) e
+      ∙ sym (part_of limits b q)
 
   -- part p against a record with items that stands for a part too
   module _ (t : Record) (others : List ℕ) (p : ℕ) (e : part_at limits b p ≡ part_from (is_join t) t others) where
@@ -200,7 +201,8 @@ module _ (limits : Limits) (b : List ℕ) (y : Bytes b) where
 
       go : (join : Bool) → is_join (record_of q) ≡ join → key_at limits b p ≡ key_of (record_of q) (part_items q)
       go true s =
-          join_key_lem (record_of q) (part_items q) p f s (bare.unused p lp (sort (record_of q) (part_items q) p f ∙ s)) (bare.unused q lq s)
+          join_key_lem (record_of q) (part_items q) p f s (bare.unused p lp (sort (record_of q) (part_items q) p f ∙ s))
+          (bare.unused q lq s)
       go false s = predicate_key_lem (record_of q) (part_items q) p f s (fits q).number (items_fit q s)
 
   pub parts_distinct : Bare limits b (part_count b) → Ascends limits b (part_count b) → Distinct ◌≡◌ (parts_of limits b)

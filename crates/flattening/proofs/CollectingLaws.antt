@@ -94,7 +94,8 @@ module _ (first : ℕ) (s : List ℤ) (i at size : ℕ) (rd : Ready first s i at
       record { tree = v.0; end = rd.end; spells = v.2; inside = rd.inside; small = rd.small; room = omega arith }
 
   -- after an operator's children: they are few, and there is a place for it
-  pub ready_node : (o : Operator) → shape_of (kind_of first s i) ≡ joins o → (negate : Bool) (own : Operator) → own ≡ operator_under negate o
+  pub ready_node : (o : Operator) → shape_of (kind_of first s i) ≡ joins o → (negate : Bool) (own : Operator)
+      → own ≡ operator_under negate o
       → (out out' : List ℕ) (r : Written) → Collects own first s i negate at out out' r → (r.count ≤ 128) × (r.at < size)
   ready_node o h negate own same out out' r collected =
       let v = spells_join first s o rd.tree i rd.end h rd.spells in
@@ -205,7 +206,8 @@ module _ (first : ℕ) (s : List ℤ) (i : ℕ) (negate : Bool) (at : ℕ) (out 
         rw (splice_join o p negate same t v.0 v.1 v.3) (wrote_both fs gs v.2 j at out out₁ out₂ left right w w₂)
 
   -- what is no node of the operator above it stands as it is
-  module _ (p : Operator) (not_not : kind_of first s i ≡ 3 → ⊥) (not_own : kind_of first s i ≡ kind_number (operator_under negate p) → ⊥) where
+  module _ (p : Operator) (not_not : kind_of first s i ≡ 3 → ⊥)
+      (not_own : kind_of first s i ≡ kind_number (operator_under negate p) → ⊥) where
     unlike : (t : Tree ℕ) (j : ℕ) → Spells first s t i j → Unlike p (flat predicate_code negate t)
     unfolding Spells
     unlike (Join o a b) j sp =

@@ -62,4 +62,5 @@ module _ {P Q S A : Type 0} (g : P → Q) (leafStep : S → Q → S × A) (joinS
     run_map_under s (more f fs) =
         let others : S × A → S × List A = λ r. run_flats leafStep joinStep r.0 (map_flats g fs) in
         ap (λ (r : S × A). ((others r).0, r.1 ∷ (others r).1)) (run_map s f)
-        ∙ ap (λ (r : S × List A). (r.0, (run_flat leaf_mapped joinStep s f).1 ∷ r.1)) (run_map_under (run_flat leaf_mapped joinStep s f).0 fs)
+        ∙ ap (λ (r : S × List A). (r.0, (run_flat leaf_mapped joinStep s f).1 ∷ r.1))
+        (run_map_under (run_flat leaf_mapped joinStep s f).0 fs)

@@ -6,7 +6,8 @@
 --   codes_read: they read back to the flattened rule. codes_value: they have the tree's Kleene value.
 --   coded_codes, coded_at: the first `count` numbers of the array are the codes.
 -- Assumes nothing.
-use Rattle.std.specs.Prelude.{◌≡◌, refl, Bool, false, not, List, [], ◌∷◌, ℕ, ◌+◌, ◌*◌, ◌/◌, ◌-◌, ◌<◌, ◌≤◌, length, get_or, take, replicate, ℤ}
+use Rattle.std.specs.Prelude.{◌≡◌, refl, Bool, false, not, List, [], ◌∷◌, ℕ, ◌+◌, ◌*◌, ◌/◌, ◌-◌, ◌<◌, ◌≤◌, length, get_or, take}
+use Rattle.std.specs.Prelude.{replicate, ℤ}
 use Rattle.std.proofs.Common.{sym, ◌∙◌, take_at}
 use Rattle.std.proofs.Math.Path.{ap}
 use native.Mathlib.Omega.{arith}

@@ -1,6 +1,7 @@
 -- What a window on a buffer hands out next. Laws in `CutLaws`: whatever is still to be read, nothing is lost and nothing made up.
 -- Assumes nothing: these are definitions.
-use Rattle.std.specs.Prelude.{◌≡◌, Bool, true, false, cond, List, [], ◌∷◌, ◌++◌, ℕ, suc, ◌+◌, ◌-◌, ◌≤◌, ◌<◌, leb, ltb, eqb, length, take, drop}
+use Rattle.std.specs.Prelude.{◌≡◌, Bool, true, false, cond, List, [], ◌∷◌, ◌++◌, ℕ, suc, ◌+◌, ◌-◌, ◌≤◌, ◌<◌, leb, ltb, eqb, length}
+use Rattle.std.specs.Prelude.{take, drop}
 use Rattle.lines.specs.Text.{newline}
 use Rattle.lines.specs.Parts.{place_of}
 use Rattle.lines.specs.Words.{line_limit, lines_of, line_end}

@@ -4,3 +4,4 @@ mod SignLaws
 mod WritingLaws
 pub mod ColonLaws
 pub mod Trials
+pub mod WordTests

@@ -4,14 +4,16 @@
 --     digits_lead                              the first is no 0, but in the number 0 itself
 --     digits_value, read_written, read_signed  read back, the number itself
 -- Assumes nothing.
-use Rattle.std.specs.Prelude.{◌≡◌, refl, true, false, List, [], ◌∷◌, ◌++◌, ℕ, zero, suc, ◌+◌, ◌*◌, ◌-◌, ◌/◌, ◌%◌, ◌^◌, ◌≤◌, ◌<◌, pos, length, get_or}
+use Rattle.std.specs.Prelude.{◌≡◌, refl, true, false, List, [], ◌∷◌, ◌++◌, ℕ, zero, suc, ◌+◌, ◌*◌, ◌-◌, ◌/◌, ◌%◌, ◌^◌, ◌≤◌, ◌<◌, pos}
+use Rattle.std.specs.Prelude.{length, get_or}
 use Rattle.std.proofs.Common.{sym, ap, ◌∙◌, pow-suc, arith, lt-ltb, le-ltb, ne_eqb, le-leb, leb-true, length-append}
 use Rattle.std.proofs.Math.Decide.{dec_lt}
 use Rattle.std.proofs.Math.ListN.{get_or-append}
 use Rattle.lists.specs.AndLaws.{and_left, and_both}
 use Rattle.lines.specs.Words.{every}
 use Rattle.lines.specs.WordsLaws.{every_none, every_rest, every_front}
-use Rattle.lines.specs.Numbers.{zero_digit, is_digit, with_digit, value_after, is_numeral, is_negative, number_of, unsigned_of, magnitude_of}
+use Rattle.lines.specs.Numbers.{zero_digit, is_digit, with_digit, value_after, is_numeral, is_negative, number_of, unsigned_of}
+use Rattle.lines.specs.Numbers.{magnitude_of}
 use Rattle.lines.specs.NumbersLaws.{digit_is, number_plain, unsigned_plain, signed_of}
 use Rattle.lines.specs.Digits.{digit_for, digits_in, digits_of, digit_limit}
 use Rattle.lines.specs.declared.numbers.Number.TheVariants.{Of as Signed}
@@ -90,7 +92,8 @@ digits_lead n = by_tenths (λ (n : ℕ). 0 < n → get_or (digits_of n) 0 0 ≡ 
     small : (n : ℕ) → n < 10 → 0 < n → get_or (digits_of n) 0 0 ≡ zero_digit → ⊥
     small n l p e = let f = rw (digits_small n l) at e in omega arith
 
-    more : (n : ℕ) → 10 ≤ n → (0 < n / 10 → get_or (digits_of (n / 10)) 0 0 ≡ zero_digit → ⊥) → 0 < n → get_or (digits_of n) 0 0 ≡ zero_digit → ⊥
+    more : (n : ℕ) → 10 ≤ n → (0 < n / 10 → get_or (digits_of (n / 10)) 0 0 ≡ zero_digit → ⊥) → 0 < n
+        → get_or (digits_of n) 0 0 ≡ zero_digit → ⊥
     more n l ih p e =
         ih (omega arith)
         (sym (get_or-append (digits_of (n / 10)) (digit_for (n % 10) ∷ []) 0 0 (digits_some (n / 10)))
@@ -123,7 +126,8 @@ digits_every : (n : ℕ) → every is_digit (digits_of n) ≡ true
 digits_every n = by_tenths (λ (n : ℕ). every is_digit (digits_of n) ≡ true) small more n n (omega arith)
   where
     small : (n : ℕ) → n < 10 → every is_digit (digits_of n) ≡ true
-    small n l = rw (digits_small n l) (every_more [] (digit_for n) (every_none is_digit) (digit_is (digit_for n) (omega arith) (omega arith)))
+    small n l =
+        rw (digits_small n l) (every_more [] (digit_for n) (every_none is_digit) (digit_is (digit_for n) (omega arith) (omega arith)))
 
     more : (n : ℕ) → 10 ≤ n → every is_digit (digits_of (n / 10)) ≡ true → every is_digit (digits_of n) ≡ true
     more n l ih =

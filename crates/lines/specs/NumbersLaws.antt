@@ -110,7 +110,8 @@ module _ (most : ℕ) where
     after_none h = go (is_digit b) refl (dec_lt most (with_digit v b))
       where
         go : (t : Bool) → is_digit b ≡ t → Dec (most < with_digit v b)
-            → cond (every is_digit (b ∷ bs) and leb (value_after (with_digit v b) bs) most) (Of (value_after (with_digit v b) bs)) None ≡ None
+            → cond (every is_digit (b ∷ bs) and leb (value_after (with_digit v b) bs) most) (Of (value_after (with_digit v b) bs)) None
+            ≡ None
         go false e d = rw (and_first _ (leb (value_after (with_digit v b) bs) most) (every_first is_digit b bs e))
         go true e (yes l) =
             let far : most < value_after (with_digit v b) bs = omega (arith, grows bs (with_digit v b)) in
@@ -120,7 +121,8 @@ module _ (most : ℕ) where
 
 -- as a loop reads a word from place i on
 module _ (most v : ℕ) (w : List ℕ) (i : ℕ) where
-  pub after_read : (u : ℕ) → i < length w → step_of most v (get_or w i 0) ≡ Of u → after_of most v (drop i w) ≡ after_of most u (drop (i + 1) w)
+  pub after_read : (u : ℕ) → i < length w → step_of most v (get_or w i 0) ≡ Of u
+      → after_of most v (drop i w) ≡ after_of most u (drop (i + 1) w)
   after_read u l h = rw (add-one, drop-cons w i 0 l) (after_more most v (get_or w i 0) (drop (suc i) w) u h)
 
   pub after_stop : i < length w → step_of most v (get_or w i 0) ≡ None → after_of most v (drop i w) ≡ None

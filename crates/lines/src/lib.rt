@@ -56,7 +56,7 @@ pub fn line_end(buffer: &[u8], from: usize, to: usize) -> usize
 }
 
 // Whether it is a word: not empty, and no longer than the limit.
-#[tactic(auto, using(std::proofs::lemmas::Bool::Decides::nat_tests, lists::specs::AndLaws::and_first, lists::specs::AndLaws::and_skip), unfolding(crate::specs::Words::is_word))]
+#[tactic(auto, using(crate::proofs::WordTests::word_tests), unfolding(crate::specs::Words::is_word))]
 fn is_word(word: &[u8]) -> bool
     ensures { result ≡ is_word word.now }
 {

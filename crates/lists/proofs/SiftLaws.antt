@@ -71,7 +71,8 @@ rank_onto (false ∷ m) (suc n) q h =
 
 module _ {A : Type 0} where
   -- what stood at a marked number stands at its new number
-  pub sift_rank : (m : List Bool) (xs : List A) (i : ℕ) (d : A) → Marked m i → i < length xs → get_or (sift m xs) (rank m i) d ≡ get_or xs i d
+  pub sift_rank : (m : List Bool) (xs : List A) (i : ℕ) (d : A) → Marked m i → i < length xs
+      → get_or (sift m xs) (rank m i) d ≡ get_or xs i d
   sift_rank [] xs i d h k = unmarked h
   sift_rank (b ∷ m) [] i d h k = absurd (not-suc-le-zero k)
   sift_rank (true ∷ m) (x ∷ xs) zero d h k = refl

@@ -2,7 +2,8 @@
 -- Assumes nothing.
 use Rattle.std.specs.Prelude.{◌≡◌, ◌≢◌, length, get_or, set, take, drop}
 use Rattle.std.proofs.Math.Path.{refl}
-use Rattle.std.proofs.Common.{sym, ap, ◌∙◌, subst, subst₂, arith, length-set, length-drop, get_or-set_same, get_or-set_other, ext_get_or, length-take-le, get_or-take, get_or-drop, get_or-append-add}
+use Rattle.std.proofs.Common.{sym, ap, ◌∙◌, subst, subst₂, arith, length-set, length-drop, get_or-set_same, get_or-set_other}
+use Rattle.std.proofs.Common.{ext_get_or, length-take-le, get_or-take, get_or-drop, get_or-append-add}
 use mathlib.Core.List.{List, [], ◌∷◌, ◌++◌, map, map-append}
 use Prim.Native.Nat.{ℕ, zero, suc, ◌+◌, ◌-◌, ◌≤◌, ◌<◌}
 use Rattle.std.proofs.Math.Decide.{ℕ_discrete, dec_lt}
@@ -118,7 +119,8 @@ module _ {A : Type 0} (n : ℕ) (f : ℕ → A) where
   pub tabulate_any : {P : A → Type 0} (i : ℕ) → i < n → P (f i) → Any P (tabulate n f)
   tabulate_any {P} i l p = any_get_or (tabulate n f) i (f 0) (rw long l) (subst P (sym (value i l)) p)
 
-  between : (R : A → A → Type 0) (i j : ℕ) → i < n → j < n → R (f i) (f j) → R (get_or (tabulate n f) i (f 0)) (get_or (tabulate n f) j (f 0))
+  between : (R : A → A → Type 0) (i j : ℕ) → i < n → j < n → R (f i) (f j)
+      → R (get_or (tabulate n f) i (f 0)) (get_or (tabulate n f) j (f 0))
   between R i j l k r = subst₂ R (sym (value i l)) (sym (value j k)) r
 
   module _ {R : A → A → Type 0} where

@@ -56,7 +56,8 @@ module _ {most : ℕ} (b : Book) (s : Sound most b) (i : ℕ) where
   -- what is marked is a root or a child, by the new numbers
   use_of : (j : ℕ) → Any (λ r. j ≡ r) (map root_of staying) ⊎ NeededBelow b.parts (map root_of staying) j
       → Any (λ r. rank marks j ≡ r.root) (map (moved (rank marks)) staying) ⊎ ChildOf left (rank marks j)
-  use_of j (inl a) = inl (any_mapped (moved (rank marks)) (any_map (λ r e. ap (rank marks) e) (any_unmapped root_of (λ r. j ≡ r) staying a)))
+  use_of j (inl a) =
+      inl (any_mapped (moved (rank marks)) (any_map (λ r e. ap (rank marks) e) (any_unmapped root_of (λ r. j ≡ r) staying a)))
   use_of j (inr h) =
       let k = h.0 in
       let stays : Marked marks k × (k < length b.parts) = (h.2, h.1) in

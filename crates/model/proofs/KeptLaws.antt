@@ -108,7 +108,8 @@ module _ (ps : List Part) (m : List Bool) (o : Ordered zero ps)
       let each = sift_each m ps (over Or []) (λ i h k. part_means i (h, k)) in
       let e : sift m ds ≡ map (flat_of (sift m ds)) (kept m ps) =
       ap (sift m) (meanings_fixed ps o) ∙ sift_map (flat_of ds) m ps
-      ∙ map_same (flat_of ds) (λ p. flat_of (sift m ds) (renumber m p)) each ∙ sym (map-map (flat_of (sift m ds)) (renumber m) (sift m ps)) in
+      ∙ map_same (flat_of ds) (λ p. flat_of (sift m ds) (renumber m p)) each
+      ∙ sym (map-map (flat_of (sift m ds)) (renumber m) (sift m ps)) in
       sym (meanings_unique (kept m ps) (sift m ds) kept_ordered e)
 
   pub kept_number : (i : ℕ) → Stays i → flat_at ps i ≡ flat_at (kept m ps) (rank m i)

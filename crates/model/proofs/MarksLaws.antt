@@ -4,8 +4,10 @@
 --   marked_why        what is marked is a root or a child of a marked part
 --   mark_last, mark_step   the pass by number
 -- Assumes nothing.
-use Rattle.std.specs.Prelude.{◌≡◌, refl, ◌⊎◌, Bool, true, false, List, [], ◌∷◌, ℕ, zero, suc, ◌+◌, ◌≤◌, ◌<◌, length, get_or, set, drop, replicate}
-use Rattle.std.proofs.Common.{ap, sym, ◌∙◌, subst, inl, inr, lt_of_lt_of_le, zero-add, arith, length-set, get_or-set_same, get_or-set_other, drop-cons}
+use Rattle.std.specs.Prelude.{◌≡◌, refl, ◌⊎◌, Bool, true, false, List, [], ◌∷◌, ℕ, zero, suc, ◌+◌, ◌≤◌, ◌<◌, length, get_or, set, drop}
+use Rattle.std.specs.Prelude.{replicate}
+use Rattle.std.proofs.Common.{ap, sym, ◌∙◌, subst, inl, inr, lt_of_lt_of_le, zero-add, arith, length-set, get_or-set_same}
+use Rattle.std.proofs.Common.{get_or-set_other, drop-cons}
 use Rattle.std.proofs.Math.Decide.{ℕ_discrete}
 use Rattle.std.proofs.lemmas.List.{length-replicate}
 use Rattle.std.proofs.Math.Seq.{drop-length}

@@ -22,7 +22,8 @@ use Rattle.model.specs.Parts.{level_at, cost_at, size_at, Below, Ordered, ChildO
 
 -- ---- meanings: appending
 
-pub after_append : (ds : List (Flat Predicate)) (ps qs : List Part) → meanings_after ds (ps ++ qs) ≡ meanings_after (meanings_after ds ps) qs
+pub after_append : (ds : List (Flat Predicate)) (ps qs : List Part)
+    → meanings_after ds (ps ++ qs) ≡ meanings_after (meanings_after ds ps) qs
 after_append ds [] qs = refl
 after_append ds (p ∷ ps) qs = after_append (ds ++ (flat_of ds p ∷ [])) ps qs
 

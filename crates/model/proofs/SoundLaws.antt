@@ -215,7 +215,8 @@ module _ {most : ℕ} {ps : List Part} (s : SoundParts most ps) where
       of : (i : ℕ) → ((j : ℕ) → i < j → j < length ps → In (flat_at ps j) (subexpressions_of rules))
           → In (flat_at ps i) rules ⊎ ChildOf ps i → In (flat_at ps i) (subexpressions_of rules)
       of i later (inl a) =
-          any_flat_map subexpressions rules (any_map (λ f e. subst (λ g. In (flat_at ps i) (subexpressions g)) e (self_in (flat_at ps i))) a)
+          any_flat_map subexpressions rules
+          (any_map (λ f e. subst (λ g. In (flat_at ps i) (subexpressions g)) e (self_in (flat_at ps i))) a)
       of i later (inr a) =
           let parent = later (index a) (child_before ps s.ordered a) (index_lt a) in
           child_in rules (at a) (holds a) (subst (λ f. In f (subexpressions_of rules)) (flat_at_place ps s.ordered a) parent)

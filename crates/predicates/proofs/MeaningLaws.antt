@@ -86,7 +86,8 @@ pub suiting_answers : (k : PredicateKind) (i : Literal) (elements : List ℤ) (v
 unfolding evaluate_of answers
 suiting_answers k i elements v list s e =
     defined (holds_of k i elements v list)
-    (sym (ap (λ (a : Bool). truth_of a (holds_of k i elements v list)) (or_true (asks_null k) (suits_of k (tag_of i) (value_number v)) s)) ∙ e)
+    (sym (ap (λ (a : Bool). truth_of a (holds_of k i elements v list)) (or_true (asks_null k) (suits_of k (tag_of i) (value_number v)) s))
+    ∙ e)
 
 -- is null true, is not null false, every other kind undefined
 abbrev pub null_on_undefined : NullOperator → Truth

@@ -60,7 +60,8 @@ tags = 0 ∷ 1 ∷ 2 ∷ 3 ∷ 4 ∷ 5 ∷ []
 abbrev attributes : List ℕ
 attributes = 1 ∷ 2 ∷ 3 ∷ 4 ∷ 5 ∷ 6 ∷ []
 
-pub suits_as_validated : for_all (λ k. for_all (λ t. for_all (λ a. same (suits_of k t a) (among t a (arms k))) attributes) tags) kinds ≡ true
+pub suits_as_validated : for_all (λ k. for_all (λ t. for_all (λ a. same (suits_of k t a) (among t a (arms k))) attributes) tags) kinds
+    ≡ true
 unfolding kinds pair
 suits_as_validated = refl
 

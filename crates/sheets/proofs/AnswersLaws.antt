@@ -9,7 +9,8 @@ use borrow.Author.Tests.{ltb-true, ltb-false, lt-ltb, le-ltb, leb-true, leb-fals
 use Rattle.std.proofs.Math.Dec.{ltb}
 use Rattle.std.specs.Int.Signed.{lt_z}
 use Rattle.error.specs.Answers.{Answer, Done, SheetMalformed, LimitPassed, number}
-use Rattle.error.specs.Answers.{NameTwice, NoAttribute, OtherKind, NotSuited, IdLive, IdNotLive, NoRoom, BookDamaged, BufferShort, EventUnsuited, NotSet}
+use Rattle.error.specs.Answers.{NameTwice, NoAttribute, OtherKind, NotSuited, IdLive, IdNotLive, NoRoom, BookDamaged, BufferShort}
+use Rattle.error.specs.Answers.{EventUnsuited, NotSet}
 use Rattle.lists.specs.Below.{all_below}
 use Rattle.lists.specs.BelowLaws.{below_each, below_all, below_fault, below_broken}
 use Rattle.lists.specs.Sets.{list_limit}

@@ -42,7 +42,8 @@ module _ (tag : ℕ) (l : List ℤ) where
 module _ (first : ℕ) (s : List ℤ) (n : ℕ) where
   listed : (i : ℕ) → has_list (tag_of first s i) ≡ true → list_fits_at first s n i ≡ true → Listed first s n i
   listed i h e =
-      let r = fits_told s (bodies_at first n) (start_at first s i) (tag_of first s i) (field_of first s i 3) (list_length_at first s i) h e in
+      let r = fits_told s (bodies_at first n) (start_at first s i) (tag_of first s i) (field_of first s i 3)
+      (list_length_at first s i) h e in
       record {
         start = r.0;
         inside = r.1;
@@ -81,7 +82,8 @@ module _ (first : ℕ) (s : List ℤ) (n : ℕ) where
         room = leb-true _ _ (and_left roomy entered two);
         entry = below_each (entry_fits_at first s) n (and_right roomy entered two);
         tree = owed_tree first s n (and_right (roomy and entered) (one_tree first s n) three);
-        lists = λ i l k. listed i k (below_each (list_fits_at first s n) n (and_left (all_below (list_fits_at first s n) n) ended lists) i l);
+        lists =
+            λ i l k. listed i k (below_each (list_fits_at first s n) n (and_left (all_below (list_fits_at first s n) n) ended lists) i l);
         end = eqb-true _ _ (and_right (all_below (list_fits_at first s n) n) ended lists);
       }
 

@@ -91,6 +91,7 @@ module _ (first : ℕ) (s : List ℤ) (n i : ℕ) (w : WellFormed first s n) (l 
   unfolding entry_of predicate_as
   reads_elements = go (has_list (tag_of first s i)) refl
     where
-      go : (b : Bool) → has_list (tag_of first s i) ≡ b → take (list_length_at first s i) (drop (list_at first s n i) s) ≡ elements_at first s n i
+      go : (b : Bool) → has_list (tag_of first s i) ≡ b
+          → take (list_length_at first s i) (drop (list_at first s n i) s) ≡ elements_at first s n i
       go true h = rw (h, (w.lists i l h).start)
       go false h = rw (h, length_unlisted first s i h)

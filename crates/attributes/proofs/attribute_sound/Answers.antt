@@ -1,5 +1,4 @@
--- `attributes::attribute_sound` meets its contract: each way out is a case of the test. At `kinded` the kind was found right, at
--- `sized` the name's length. Assumes nothing.
+-- `attributes::attribute_sound` meets its contract: each way out is a case of the test. Assumes nothing.
 use mathlib.Core.Path.{sym, ap, ◌∙◌}
 use Rattle.lists.specs.AndLaws.{and_first, and_second, and_both}
 use Rattle.attributes.specs.Table.{nowhere}

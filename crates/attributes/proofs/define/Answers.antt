@@ -1,5 +1,5 @@
--- `attributes::define` meets its contract: each way out is a case of the answer. At `within` the name is known to have 1 to 32
--- bytes, at `free` the table to have room, and `good` says that the definition's array has 32 places. Assumes nothing.
+-- `attributes::define` meets its contract: each way out is a case of the answer. Where the name's length was tested it is known to have 1
+-- to 32 bytes, and `places` says that the definition's array has 32 places. Assumes nothing.
 use mathlib.Core.Path.{sym, ap, ◌∙◌}
 use Prim.Native.Nat.{ℕ}
 use lib.ListN.{length}

@@ -14,7 +14,8 @@ returns-then-table-ne-TABLE_SIZE c = sym (and_first _ _ (and_first _ _ (ne_eqb _
 
 pub returns-then-count-gt-ATTRIBUTE_LIMIT : goal.returns-then-count-gt-ATTRIBUTE_LIMIT
 unfolding sound_table
-returns-then-count-gt-ATTRIBUTE_LIMIT c = sym (and_first _ _ (and_second _ _ (lt-leb _ _ (rw c.len-count.ensures at c.if-count-gt-ATTRIBUTE_LIMIT.true))))
+returns-then-count-gt-ATTRIBUTE_LIMIT c =
+    sym (and_first _ _ (and_second _ _ (lt-leb _ _ (rw c.len-count.ensures at c.if-count-gt-ATTRIBUTE_LIMIT.true))))
 
 pub loop-i-init : goal.loop-i-init
 loop-i-init c = (omega arith, omega arith, c.len-count.ensures, below_none _)

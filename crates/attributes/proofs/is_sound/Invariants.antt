@@ -8,7 +8,8 @@ use Rattle.attributes.specs.Sound.{sound_attribute}
 use Rattle.attributes.proofs.is_sound.Given as goal
 
 abbrev pub invariant-loop-i : goal.invariant-loop-i
-invariant-loop-i l = (l.i ≤ l.count) × (l.count ≤ attribute_limit) × (l.count ≡ count_of l.table) × (all_below (sound_attribute l.table) l.i ≡ true)
+invariant-loop-i l =
+    (l.i ≤ l.count) × (l.count ≤ attribute_limit) × (l.count ≡ count_of l.table) × (all_below (sound_attribute l.table) l.i ≡ true)
 
 abbrev pub decreases-loop-i : goal.decreases-loop-i
 decreases-loop-i l = l.count - l.i

@@ -4,12 +4,11 @@ use Rattle.changes.proofs.append_join.Goals as goal
 
 pub returns : goal.returns
 returns c =
-    let far = c in
-    let a = far.args in
+    let a = c.args in
     join_put a.limits a.bytes.now a.content
-    far.part_count-part.ensures
-    far.place_count-places.ensures
-    far.element_count-elements.ensures
+    c.part_count-part.ensures
+    c.place_count-places.ensures
+    c.element_count-elements.ensures
     a.children.now
     c.write_children.ensures
     c.place.ensures

@@ -7,7 +7,9 @@ use Rattle.changes.specs.Moving.{raised}
 use Rattle.changes.proofs.insert_entry.Given as goal
 
 abbrev pub invariant-loop-left : goal.invariant-loop-left
-invariant-loop-left l = (raised (entry_at l.limits) (put_entry l.limits) l.bytes l.k l.left ≡ raised (entry_at l.limits) (put_entry l.limits) l.initial.bytes l.k l.initial.left)
+invariant-loop-left l =
+    (raised (entry_at l.limits) (put_entry l.limits) l.bytes l.k l.left
+    ≡ raised (entry_at l.limits) (put_entry l.limits) l.initial.bytes l.k l.initial.left)
     × (length l.bytes ≡ length l.initial.bytes)
     × (l.left ≤ l.initial.left)
 

@@ -8,9 +8,8 @@ use Rattle.changes.proofs.insert_rule.Goals as goal
 
 pub loop-left-preserved : goal.loop-left-preserved
 loop-left-preserved c =
-    let far = c in
     let h = c.loop-left in (
-      raise_more rule_at put_rule far.args.i
+      raise_more rule_at put_rule c.args.i
           h.left (omega arith) h.invariant.0 c.get_rule-moved.ensures c.put_rule.ensures,
       search rules,
       search rules,
@@ -18,9 +17,8 @@ loop-left-preserved c =
 
 pub returns : goal.returns
 returns c =
-    let far = c in
-    let h = far.loop-left in
-    let a = far.args in
-    rule_inserted a.bytes.now a.i a.rule far.rule_count-count.ensures
+    let h = c.loop-left in
+    let a = c.args in
+    rule_inserted a.bytes.now a.i a.rule c.rule_count-count.ensures
     (raise_end rule_at put_rule a.i h.left (omega arith) h.invariant.0)
     c.put_rule-2.ensures c.put_rule_count.ensures

@@ -7,7 +7,8 @@ use Rattle.changes.specs.Moving.{lowered}
 use Rattle.changes.proofs.remove_rule.Given as goal
 
 abbrev pub invariant-loop-k : goal.invariant-loop-k
-invariant-loop-k l = (lowered rule_at put_rule l.bytes l.k (l.count - (l.k + 1)) ≡ lowered rule_at put_rule l.initial.bytes l.i (l.count - (l.i + 1)))
+invariant-loop-k l =
+    (lowered rule_at put_rule l.bytes l.k (l.count - (l.k + 1)) ≡ lowered rule_at put_rule l.initial.bytes l.i (l.count - (l.i + 1)))
     × (length l.bytes ≡ length l.initial.bytes)
     × (l.i ≤ l.k)
     × (l.k < l.count)

@@ -13,22 +13,20 @@ loop-i-init c = (refl, refl, search rules)
 
 pub bounds-news-root : goal.bounds-news-root
 bounds-news-root c =
-    let far = c in
-    let a = far.args in
+    let a = c.args in
     let h = c.loop-i in
     let e = rule_unread a.bytes.now a.news.now h.i h.invariant.0 c.get_rule-rule.ensures in
     let root = ap (λ (r : Rule). r.root) e in
     omega (
       arith,
-      far.requires.2 h.i
+      c.requires.2 h.i
           (omega (arith, c.rule_count-count.ensures)),
     )
 
 pub loop-i-preserved : goal.loop-i-preserved
 loop-i-preserved c =
-    let far = c in
-    let a = far.args in
-    let h = far.loop-i in (
+    let a = c.args in
+    let h = c.loop-i in (
       renumber_more a.bytes.now a.news.now h.i _ h.invariant.0
           c.get_rule-rule.ensures refl c.put_rule.ensures,
       search rules,

@@ -6,7 +6,8 @@ use Rattle.changes.specs.Effects.{ElementsPut}
 use Rattle.changes.proofs.write_elements.Given as goal
 
 abbrev pub invariant-loop-k : goal.invariant-loop-k
-invariant-loop-k l = (ElementsPut l.limits l.initial.bytes l.at l.list l.k l.bytes) × (length l.bytes ≡ length l.initial.bytes) × (l.k ≤ length l.list)
+invariant-loop-k l =
+    (ElementsPut l.limits l.initial.bytes l.at l.list l.k l.bytes) × (length l.bytes ≡ length l.initial.bytes) × (l.k ≤ length l.list)
 
 abbrev pub decreases-loop-k : goal.decreases-loop-k
 decreases-loop-k l = length l.list - l.k

@@ -16,19 +16,15 @@ returns-then-left-right c =
 
 pub returns-then-left-right-2 : goal.returns-then-left-right-2
 returns-then-left-right-2 c =
-    let t = c in
-    let s = t in
-    let left = back s.args.left.number c.struct_told-then-left-right-2-1.given.0.1 in
-    let right = back s.args.right.number c.struct_told-then-left-right-2-2-1.given.0.1 in
+    let left = back c.args.left.number c.struct_told-then-left-right-2-1.given.0.1 in
+    let right = back c.args.right.number c.struct_told-then-left-right-2-2-1.given.0.1 in
     c.raised.ensures
-    ∙ rw (left, right) (lesser_scale s.args.left s.args.right (le_of_lt t.if-left-right-2.true) s.requires.1)
+    ∙ rw (left, right) (lesser_scale c.args.left c.args.right (le_of_lt c.if-left-right-2.true) c.requires.1)
 
 pub returns : goal.returns
 returns c =
-    let t = c in
-    let s = t in
-    let right = back s.args.right.number c.struct_told-2-1.given.0.1 in
-    let left = back s.args.left.number c.struct_told-3-1.given.0.1 in
+    let right = back c.args.right.number c.struct_told-2-1.given.0.1 in
+    let left = back c.args.left.number c.struct_told-3-1.given.0.1 in
     c.turned.ensures
     ∙ ap turned_of c.raised-2.ensures
-    ∙ rw (right, left) (greater_scale s.args.left s.args.right t.if-left-right-2.false s.requires.0)
+    ∙ rw (right, left) (greater_scale c.args.left c.args.right c.if-left-right-2.false c.requires.0)

@@ -8,22 +8,19 @@ use Rattle.decimals.proofs.normal.Goals as goal
 
 pub overflow_sub-scale : goal.overflow_sub-scale
 overflow_sub-scale c =
-    let n = c in
-    let u = sym n.is_normal.ensures ∙ c.loop-number-test.true in
-    (normal_step n.loop-number.rest u).0
+    let u = sym c.is_normal.ensures ∙ c.loop-number-test.true in
+    (normal_step c.loop-number.rest u).0
 
 pub loop-number-smaller : goal.loop-number-smaller
 loop-number-smaller c = let h = overflow_sub-scale c in omega arith
 
 pub loop-number-preserved : goal.loop-number-preserved
 loop-number-preserved c =
-    let n = c in
-    let u = sym n.is_normal.ensures ∙ c.loop-number-test.true in
-    rw (quot_back n.loop-number.rest.number c.struct_told-1.given.0.1)
-    (n.loop-number.invariant ∙ (normal_step n.loop-number.rest u).1)
+    let u = sym c.is_normal.ensures ∙ c.loop-number-test.true in
+    rw (quot_back c.loop-number.rest.number c.struct_told-1.given.0.1)
+    (c.loop-number.invariant ∙ (normal_step c.loop-number.rest u).1)
 
 pub returns : goal.returns
 returns c =
-    let n = c in
-    let s = sym n.is_normal.ensures ∙ c.loop-number-test.false in
-    sym (n.loop-number.invariant ∙ normal_stop n.loop-number.rest s)
+    let s = sym c.is_normal.ensures ∙ c.loop-number-test.false in
+    sym (c.loop-number.invariant ∙ normal_stop c.loop-number.rest s)

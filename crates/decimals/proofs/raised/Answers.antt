@@ -10,9 +10,8 @@ use Rattle.decimals.proofs.raised.Goals as goal
 
 pub returns-then-k-gt-GREATEST_POWER : goal.returns-then-k-gt-GREATEST_POWER
 returns-then-k-gt-GREATEST_POWER c =
-    let s = c in
-    let a = s.args in
-    let f = s.ranges in
+    let a = c.args in
+    let f = c.ranges in
     c.then.ensures
     ∙ ap₂ then_of c.integers.ensures c.integers-then-k-gt-GREATEST_POWER.ensures
     ∙ rw (back a.a f.a.sfits, back a.b f.b.sfits)
@@ -31,13 +30,11 @@ nonzero_rem-b c =
 
 pub returns : goal.returns
 returns c =
-    let t = c in
-    let s = t in
-    let a = s.args in
-    let f = s.ranges in
-    let p = t.ten_to-power.result in
+    let a = c.args in
+    let f = c.ranges in
+    let p = c.ten_to-power.result in
     c.then-2.ensures
     ∙ ap₂ then_of c.integers-2.ensures c.integers-3.ensures
-    ∙ rw (power_back p a.k t.ten_to-power.ensures t.if-k-gt-GREATEST_POWER.false, back a.a f.a.sfits)
-    (rw (quot_back a.b f.b.sfits p, rem_back a.b f.b.sfits p, t.ten_to-power.ensures)
+    ∙ rw (power_back p a.k c.ten_to-power.ensures c.if-k-gt-GREATEST_POWER.false, back a.a f.a.sfits)
+    (rw (quot_back a.b f.b.sfits p, rem_back a.b f.b.sfits p, c.ten_to-power.ensures)
     (sym (divided (10 ^ a.k) (ten_pos a.k) a.a a.b)))

@@ -8,15 +8,13 @@ use Rattle.events.proofs.all_words.Goals as goal
 
 pub returns-then-not-up_to : goal.returns-then-not-up_to
 returns-then-not-up_to c =
-    let turn = c in
-    let at = turn.loop-i in
+    let at = c.loop-i in
     let word = rw (to_z-of_z (sfits_of c.word-1.given)) at (sym c.up_to.ensures ∙ c.if-not-up_to.true) in
     sym (at.invariant.1 ∙ words_stop _ at.i c.loop-i-test.true word)
 
 pub loop-i-preserved : goal.loop-i-preserved
 loop-i-preserved c =
-    let turn = c in
-    let at = turn.loop-i in
+    let at = c.loop-i in
     let word = rw (to_z-of_z (sfits_of c.word-1.given)) at (sym c.up_to.ensures ∙ c.if-not-up_to.false) in
     (omega arith, at.invariant.1 ∙ words_on _ at.i c.loop-i-test.true word)
 

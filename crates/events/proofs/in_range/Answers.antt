@@ -12,8 +12,7 @@ returns-then-kind-eq-FLOAT c = rw c.if-kind-eq-FLOAT.true (sym (range_float _ _ 
 
 pub returns-then-kind-eq-STRING : goal.returns-then-kind-eq-STRING
 returns-then-kind-eq-STRING c =
-    let start = c in
-    rw c.if-kind-eq-STRING.true (c.up_to-then-kind-eq-STRING.ensures ∙ rw (to_z-of_z start.ranges.number) (sym (range_string _ _ _)))
+    rw c.if-kind-eq-STRING.true (c.up_to-then-kind-eq-STRING.ensures ∙ rw (to_z-of_z c.ranges.number) (sym (range_string _ _ _)))
 
 pub returns-then-kind-eq-STRING_LIST : goal.returns-then-kind-eq-STRING_LIST
 returns-then-kind-eq-STRING_LIST c = rw c.if-kind-eq-STRING_LIST.true (c.all_words.ensures ∙ sym (range_words _ _ _))

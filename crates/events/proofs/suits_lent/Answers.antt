@@ -19,9 +19,8 @@ returns-then-count-len c = sym (and_first _ _ (ne_eqb _ _ (rw c.len.ensures at c
 
 pub loop-i-init : goal.loop-i-init
 loop-i-init c =
-    let start = c in
     let counted = c.if-count-len.false ∙ c.len.ensures in
-    (omega arith, omega (arith, counted, ((sound_iff _).0 start.requires.0).few), counted, below_none _)
+    (omega arith, omega (arith, counted, ((sound_iff _).0 c.requires.0).few), counted, below_none _)
 
 pub by_id-own-requires : goal.by_id-own-requires
 by_id-own-requires c = (((sound_iff _).0 c.requires.0).size, omega arith)
@@ -29,23 +28,15 @@ by_id-own-requires c = (((sound_iff _).0 c.requires.0).size, omega arith)
 pub returns-then-not-place_suits : goal.returns-then-not-place_suits
 unfolding suits_of
 returns-then-not-place_suits c =
-    let read = c in
-    let listed = read in
-    let known = listed in
-    let turn = known in
-    let told = rw (known.by_id-own.ensures, to_z-of_z (sfits_of read.number-1.given), listed.list_at-list.ensures)
+    let told = rw (c.by_id-own.ensures, to_z-of_z (sfits_of c.number-1.given), c.list_at-list.ensures)
     at c.place_suits.ensures in
-    sym (and_second _ _ (below_broken _ turn.loop-i.i _ (omega arith) (sym told ∙ c.if-not-place_suits.true)))
+    sym (and_second _ _ (below_broken _ c.loop-i.i _ (omega arith) (sym told ∙ c.if-not-place_suits.true)))
 
 pub loop-i-preserved : goal.loop-i-preserved
 loop-i-preserved c =
-    let read = c in
-    let listed = read in
-    let known = listed in
-    let turn = known in
-    let told = rw (known.by_id-own.ensures, to_z-of_z (sfits_of read.number-1.given), listed.list_at-list.ensures)
+    let told = rw (c.by_id-own.ensures, to_z-of_z (sfits_of c.number-1.given), c.list_at-list.ensures)
     at c.place_suits.ensures in
-    let h = turn.loop-i.invariant in
+    let h = c.loop-i.invariant in
     (omega arith, h.1, h.2, below_more _ _ h.3 (sym told ∙ c.if-not-place_suits.false))
 
 pub returns : goal.returns

@@ -46,6 +46,5 @@ returns-then-kind-eq-STRING_LIST c = rw c.if-kind-eq-STRING_LIST.true
 
 pub returns : goal.returns
 returns c =
-    let scalar = c in
-    sym (value_none _ _ _ scalar.if-kind-eq-BOOLEAN.false scalar.if-kind-eq-INTEGER.false scalar.if-kind-eq-FLOAT.false
-    scalar.if-kind-eq-STRING.false c.if-kind-eq-INTEGER_LIST.false c.if-kind-eq-STRING_LIST.false)
+    sym (value_none _ _ _ c.if-kind-eq-BOOLEAN.false c.if-kind-eq-INTEGER.false c.if-kind-eq-FLOAT.false
+    c.if-kind-eq-STRING.false c.if-kind-eq-INTEGER_LIST.false c.if-kind-eq-STRING_LIST.false)

@@ -10,7 +10,8 @@ use Rattle.finding.specs.Keys.{item_at}
 use Rattle.finding.proofs.compare_elements.Given as goal
 
 abbrev pub invariant-loop-i : goal.invariant-loop-i
-invariant-loop-i l = (l.i ≤ length l.list) × Agree (λ j. item_at l.join l.limits l.bytes (l.start + j)) (λ j. of_z w64 (get_or l.list j (pos 0))) l.i
+invariant-loop-i l =
+    (l.i ≤ length l.list) × Agree (λ j. item_at l.join l.limits l.bytes (l.start + j)) (λ j. of_z w64 (get_or l.list j (pos 0))) l.i
 
 abbrev pub decreases-loop-i : goal.decreases-loop-i
 decreases-loop-i l = length l.list - l.i

@@ -26,7 +26,9 @@ returns-in-Equal c =
     let heads : Against a.limits a.bytes.now a.p c.get_head-a.result c.candidate_head-b.result Equal
     = record { read = c.get_head-a.ensures; order = c.in-Equal.ensures } in
     let run = counted_run heads refl a.content (length a.children.now) c.candidate_head-b.ensures in
-    settled_equal heads _ (candidate_key_lem a.content a.children.now (length a.children.now) c.candidate_head-b.ensures refl) refl run c.compare_children.ensures
+    settled_equal heads _
+    (candidate_key_lem a.content a.children.now
+    (length a.children.now) c.candidate_head-b.ensures refl) refl run c.compare_children.ensures
 
 pub returns-in-Greater : goal.returns-in-Greater
 returns-in-Greater c =

@@ -27,7 +27,8 @@ returns-in-Equal c =
     let heads : Against a.limits a.bytes.now a.p c.get_head-a.result c.get_head-b.result Equal
     = record { read = c.get_head-a.ensures; order = c.in-Equal.ensures } in
     let other = other_run heads refl (λ i. (c.shared_slice_known-1.given i).fits) a.q c.get_head-b.ensures in
-    settled_equal heads _ (part_key a.limits a.bytes.now a.q c.get_head-b.ensures) refl (own_run heads) (c.compare_runs.ensures ∙ ap (key_order _) (run_items other))
+    settled_equal heads _ (part_key a.limits a.bytes.now a.q c.get_head-b.ensures) refl (own_run heads)
+    (c.compare_runs.ensures ∙ ap (key_order _) (run_items other))
 
 pub returns-in-Greater : goal.returns-in-Greater
 returns-in-Greater c =

@@ -21,7 +21,9 @@ returns-in-Less c =
     let a = c.args in
     let heads : Against a.limits a.bytes.now a.p c.get_head-a.result c.candidate_head-b.result Less
     = record { read = c.get_head-a.ensures; order = c.in-Less.ensures } in
-    settled_less heads _ (candidate_key_lem a.content (map (of_z w64) a.elements.now) (length a.elements.now) c.candidate_head-b.ensures (sym (length-map a.elements.now (of_z w64)))) refl
+    settled_less heads _
+    (candidate_key_lem a.content (map (of_z w64) a.elements.now) (length a.elements.now) c.candidate_head-b.ensures
+    (sym (length-map a.elements.now (of_z w64)))) refl
 
 pub returns-in-Equal : goal.returns-in-Equal
 returns-in-Equal c =
@@ -29,11 +31,15 @@ returns-in-Equal c =
     let heads : Against a.limits a.bytes.now a.p c.get_head-a.result c.candidate_head-b.result Equal
     = record { read = c.get_head-a.ensures; order = c.in-Equal.ensures } in
     let run = counted_run heads refl a.content (length a.elements.now) c.candidate_head-b.ensures in
-    settled_equal heads _ (candidate_key_lem a.content (map (of_z w64) a.elements.now) (length a.elements.now) c.candidate_head-b.ensures (sym (length-map a.elements.now (of_z w64)))) refl run c.compare_elements.ensures
+    settled_equal heads _
+    (candidate_key_lem a.content (map (of_z w64) a.elements.now) (length a.elements.now) c.candidate_head-b.ensures
+    (sym (length-map a.elements.now (of_z w64)))) refl run c.compare_elements.ensures
 
 pub returns-in-Greater : goal.returns-in-Greater
 returns-in-Greater c =
     let a = c.args in
     let heads : Against a.limits a.bytes.now a.p c.get_head-a.result c.candidate_head-b.result Greater
     = record { read = c.get_head-a.ensures; order = c.in-Greater.ensures } in
-    settled_greater heads _ (candidate_key_lem a.content (map (of_z w64) a.elements.now) (length a.elements.now) c.candidate_head-b.ensures (sym (length-map a.elements.now (of_z w64)))) refl
+    settled_greater heads _
+    (candidate_key_lem a.content (map (of_z w64) a.elements.now) (length a.elements.now) c.candidate_head-b.ensures
+    (sym (length-map a.elements.now (of_z w64)))) refl

@@ -5,7 +5,8 @@ use Rattle.finding.specs.Keys.{item_at}
 use Rattle.finding.proofs.compare_runs.Given as goal
 
 abbrev pub invariant-loop-i : goal.invariant-loop-i
-invariant-loop-i l = (l.i ≤ l.count) × Agree (λ j. item_at l.join l.limits l.bytes (l.start + j)) (λ j. item_at l.join l.limits l.bytes (l.other + j)) l.i
+invariant-loop-i l =
+    (l.i ≤ l.count) × Agree (λ j. item_at l.join l.limits l.bytes (l.start + j)) (λ j. item_at l.join l.limits l.bytes (l.other + j)) l.i
 
 abbrev pub decreases-loop-i : goal.decreases-loop-i
 decreases-loop-i l = l.count - l.i

@@ -17,7 +17,9 @@ loop-low-preserved-in-Less c =
     let a = c.args in
     let at = c.loop-low in
     let middle : ℕ = at.low + (at.high - at.low) / 2 in
-    let order : Less ≡ key_order (key_at a.limits a.bytes.now (entry_at a.limits a.bytes.now middle)) (candidate_key a.join a.content a.list.now a.children.now)
+    let order : Less
+    ≡ key_order (key_at a.limits a.bytes.now (entry_at a.limits a.bytes.now middle))
+    (candidate_key a.join a.content a.list.now a.children.now)
     = rw c.get_entry-p.ensures at c.in-Less.ensures in
     middle_less c.requires.ascends _ at.invariant middle (omega arith) (omega arith) order refl
 
@@ -26,7 +28,9 @@ returns-in-Equal c =
     let a = c.args in
     let at = c.loop-low in
     let middle : ℕ = at.low + (at.high - at.low) / 2 in
-    let order : Equal ≡ key_order (key_at a.limits a.bytes.now (entry_at a.limits a.bytes.now middle)) (candidate_key a.join a.content a.list.now a.children.now)
+    let order : Equal
+    ≡ key_order (key_at a.limits a.bytes.now (entry_at a.limits a.bytes.now middle))
+    (candidate_key a.join a.content a.list.now a.children.now)
     = rw c.get_entry-p.ensures at c.in-Equal.ensures in
     subst (λ (x : ℕ). FoundRight a.limits a.bytes.now (candidate_key a.join a.content a.list.now a.children.now) (At x))
     (sym c.get_entry-p.ensures)
@@ -37,7 +41,9 @@ loop-low-preserved c =
     let a = c.args in
     let at = c.loop-low in
     let middle : ℕ = at.low + (at.high - at.low) / 2 in
-    let order : Greater ≡ key_order (key_at a.limits a.bytes.now (entry_at a.limits a.bytes.now middle)) (candidate_key a.join a.content a.list.now a.children.now)
+    let order : Greater
+    ≡ key_order (key_at a.limits a.bytes.now (entry_at a.limits a.bytes.now middle))
+    (candidate_key a.join a.content a.list.now a.children.now)
     = rw c.get_entry-p.ensures at c.in-Greater.ensures in
     middle_greater c.requires.ascends _ at.invariant middle (omega arith) (omega arith) order refl
 

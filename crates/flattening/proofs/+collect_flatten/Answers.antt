@@ -58,12 +58,16 @@ pub collect-collect-requires : goal.collect-collect-requires
 collect-collect-requires t c =
     let a = c.args in
     let r = ready_room _ _ _ _ _ c.requires in
-    let l = lag_most a.parent (not a.negate) (kind_of a.first a.s.now (a.i + 1)) in
-    (omega arith, ready_not _ _ _ _ _ c.requires (not_read c.args.first c.args.s.now c.args.i _ c.number-kind.ensures c.if-kind-eq-NOT.true))
+    let l = lag_most a.parent (not a.negate) (kind_of a.first a.s.now (a.i + 1)) in (
+      omega arith,
+      ready_not _ _ _ _ _ c.requires
+          (not_read c.args.first c.args.s.now c.args.i _ c.number-kind.ensures c.if-kind-eq-NOT.true),
+    )
 
 pub collect-returns-then-kind-eq-NOT : goal.collect-returns-then-kind-eq-NOT
 collect-returns-then-kind-eq-NOT t c =
-    collect_not _ _ _ _ _ _ (not_read c.args.first c.args.s.now c.args.i _ c.number-kind.ensures c.if-kind-eq-NOT.true) _ _ _ c.collect.ensures
+    collect_not _ _ _ _ _ _
+    (not_read c.args.first c.args.s.now c.args.i _ c.number-kind.ensures c.if-kind-eq-NOT.true) _ _ _ c.collect.ensures
 
 pub collect-overflow_add-i-then-kind-kind_of : goal.collect-overflow_add-i-then-kind-kind_of
 collect-overflow_add-i-then-kind-kind_of t c = let r = ready_room _ _ _ _ _ c.requires in omega arith
@@ -134,12 +138,16 @@ flatten-overflow_add-i t c = let r = ready_room _ _ _ _ _ c.requires in omega ar
 
 pub flatten-flatten-requires : goal.flatten-flatten-requires
 flatten-flatten-requires t c =
-    let r = ready_room _ _ _ _ _ c.requires in
-    (omega arith, ready_not _ _ _ _ _ c.requires (not_read c.args.first c.args.s.now c.args.i _ c.number-kind.ensures c.if-kind-eq-NOT.true))
+    let r = ready_room _ _ _ _ _ c.requires in (
+      omega arith,
+      ready_not _ _ _ _ _ c.requires
+          (not_read c.args.first c.args.s.now c.args.i _ c.number-kind.ensures c.if-kind-eq-NOT.true),
+    )
 
 pub flatten-returns-then-kind-eq-NOT : goal.flatten-returns-then-kind-eq-NOT
 flatten-returns-then-kind-eq-NOT t c =
-    flatten_not _ _ _ _ _ _ (not_read c.args.first c.args.s.now c.args.i _ c.number-kind.ensures c.if-kind-eq-NOT.true) _ _ c.flatten.ensures
+    flatten_not _ _ _ _ _ _
+    (not_read c.args.first c.args.s.now c.args.i _ c.number-kind.ensures c.if-kind-eq-NOT.true) _ _ c.flatten.ensures
 
 pub flatten-collect-children-requires : goal.flatten-collect-children-requires
 flatten-collect-children-requires t c =
@@ -193,5 +201,7 @@ flatten-bounds-out-at t c = let r = ready_room _ _ _ _ _ c.requires in omega ari
 
 pub flatten-returns : goal.flatten-returns
 flatten-returns t c =
-    let shape = stands_read c.args.first c.args.s.now c.args.i _ c.number-kind.ensures c.if-kind-eq-NOT.false _ c.is_operator.ensures c.if-is_operator.false in
+    let a = c.args in
+    let read = c.number-kind.ensures in
+    let shape = stands_read a.first a.s.now a.i _ read c.if-kind-eq-NOT.false _ c.is_operator.ensures c.if-is_operator.false in
     rw c.predicate_code.ensures (flatten_predicate _ _ _ _ _ _ shape)

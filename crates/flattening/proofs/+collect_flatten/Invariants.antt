@@ -1,6 +1,6 @@
 -- `flatten` and `collect`, which call each other over the sheet's remaining entries, end. The measure counts three for each number of the
--- sheet after the first i; `flatten` adds one, and `collect` its lag: two where it hands the entry on to `flatten`, none where it goes on to
--- the entry's children. Assumes nothing.
+-- sheet after the first i; `flatten` adds one, and `collect` its lag: two where it hands the entry on to `flatten`, none where it goes on
+-- to the entry's children. Assumes nothing.
 use Prim.Native.Nat.{◌+◌, ◌*◌, ◌-◌}
 use lib.ListN.{length}
 use Rattle.sheets.specs.Entries.{kind_of}

@@ -10,7 +10,6 @@ use Rattle.words.proofs.write_i64.Goals as goal
 pub returns : goal.returns
 unfolding put_signed
 returns c =
-    let s = c in
     c.write_u64.ensures
-    ∙ ap (λ (u : ℕ). put 8 s.args.b.now s.args.at u)
-    (c.unsigned.ensures ∙ ap (of_z w64) (to_z-of_z w64 s.args.x s.ranges.x))
+    ∙ ap (λ (u : ℕ). put 8 c.args.b.now c.args.at u)
+    (c.unsigned.ensures ∙ ap (of_z w64) (to_z-of_z w64 c.args.x c.ranges.x))

@@ -8,7 +8,8 @@ use Rattle.lines.specs.NumbersLaws.{after_of}
 use Rattle.lines.proofs.numbers.magnitude.Given as goal
 
 abbrev pub invariant-loop-i : goal.invariant-loop-i
-invariant-loop-i l = (l.i ≤ length l.digits) × (l.value ≤ l.most) × (magnitude_of l.most l.digits ≡ after_of l.most l.value (drop l.i l.digits))
+invariant-loop-i l =
+    (l.i ≤ length l.digits) × (l.value ≤ l.most) × (magnitude_of l.most l.digits ≡ after_of l.most l.value (drop l.i l.digits))
 
 abbrev pub decreases-loop-i : goal.decreases-loop-i
 decreases-loop-i l = length l.digits - l.i

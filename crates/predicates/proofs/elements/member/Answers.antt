@@ -25,13 +25,11 @@ pub returns-in-loop-low : goal.returns-in-loop-low
 returns-in-loop-low c =
     let read = c.element-y in
     let y = to_z-of_z w64 read.result (record { sfits = read.type_inv }) ∙ read.ensures in
-    let start = c in
     let at = c.loop-low in
     let more = c.loop-low-test.true in
-    rw (to_z-of_z w64 start.args.x start.ranges.x) at
-    (met start.requires at.invariant more (rw y at c.if-y-x.false) (rw y at c.if-x-y.false))
+    rw (to_z-of_z w64 c.args.x c.ranges.x) at
+    (met c.requires at.invariant more (rw y at c.if-y-x.false) (rw y at c.if-x-y.false))
 
 pub returns : goal.returns
 returns c =
-    let start = c in
-    rw (to_z-of_z w64 start.args.x start.ranges.x) at (nowhere c.loop-low.invariant c.loop-low-test.false)
+    rw (to_z-of_z w64 c.args.x c.ranges.x) at (nowhere c.loop-low.invariant c.loop-low-test.false)

@@ -29,7 +29,6 @@ returns c =
     let from = a.base + a.start in
     let inside : from + a.size ≤ length s = omega arith in
     let same : from + a.size - from ≡ a.size = omega arith in
-    let test = c in
-    let listed = sym test.has_list.ensures ∙ test.if-not-has_list.false in
+    let listed = sym c.has_list.ensures ∙ c.if-not-has_list.false in
     c.elements_fit.ensures ∙ ap (λ (k : ℕ). elements_fit a.tag (take k (drop from s))) same
     ∙ sym (fits_listed _ _ _ _ _ _ listed c.if-x-start.false inside)

@@ -11,7 +11,8 @@ returns-then-s-first c = sym (and_first _ _ (and_first _ _ (and_first _ _ (lt-le
 
 pub returns-then-not-entries_fit : goal.returns-then-not-entries_fit
 unfolding is_well_formed
-returns-then-not-entries_fit c = sym (and_first _ _ (and_first _ _ (and_second _ _ (sym c.entries_fit.ensures ∙ c.if-not-entries_fit.true))))
+returns-then-not-entries_fit c =
+    sym (and_first _ _ (and_first _ _ (and_second _ _ (sym c.entries_fit.ensures ∙ c.if-not-entries_fit.true))))
 
 pub returns-then-not-one_tree : goal.returns-then-not-one_tree
 unfolding is_well_formed

@@ -11,18 +11,16 @@ use Rattle.sheets.proofs.reading.read_predicate.Goals as goal
 
 pub overflow_cast-kind : goal.overflow_cast-kind
 overflow_cast-kind c =
-    let start = c in
-    let a = start.args in
-    let r = readable a.first a.s.now a.n a.i start.requires.0 start.requires.1 in
+    let a = c.args in
+    let r = readable a.first a.s.now a.n a.i c.requires.0 c.requires.1 in
     let k = r.kinds in
     let e = c.field-kind.ensures in
     omega arith
 
 pub overflow_cast-result : goal.overflow_cast-result
 overflow_cast-result c =
-    let start = c in
-    let a = start.args in
-    let r = readable a.first a.s.now a.n a.i start.requires.0 start.requires.1 in
+    let a = c.args in
+    let r = readable a.first a.s.now a.n a.i c.requires.0 c.requires.1 in
     let t = r.tags in
     let e = c.field-tag.ensures in
     omega arith
@@ -39,17 +37,15 @@ returns-then-has_list c =
 
 pub scaled-literal-requires : goal.scaled-literal-requires
 scaled-literal-requires c =
-    let start = c in
-    let a = start.args in
-    let r = readable a.first a.s.now a.n a.i start.requires.0 start.requires.1 in
+    let a = c.args in
+    let r = readable a.first a.s.now a.n a.i c.requires.0 c.requires.1 in
     let unlisted : has_list (tag_of a.first a.s.now a.i) ≡ false = cc in
     (r.inside, r.scales unlisted)
 
 pub overflow_cast-result-2 : goal.overflow_cast-result-2
 overflow_cast-result-2 c =
-    let start = c in
-    let a = start.args in
-    let r = readable a.first a.s.now a.n a.i start.requires.0 start.requires.1 in
+    let a = c.args in
+    let r = readable a.first a.s.now a.n a.i c.requires.0 c.requires.1 in
     let t = r.tags in
     let e = c.field-tag.ensures in
     omega arith
