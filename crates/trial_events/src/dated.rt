@@ -11,7 +11,7 @@ fn given(
     rt: &impl Print,
     table: &[u8],
     event: Event,
-    name: &str,
+    name: &[u8],
     number: i64,
     stamp: u64,
     present: u64,
@@ -25,37 +25,38 @@ fn given(
     let filled = filling::fill_dated(
         table,
         event,
-        name.as_bytes(),
+        name,
         reading,
         &[],
         stamp,
         present,
         greatest_age,
     );
-    print!(rt; "{name} {}:", filled.answer)?;
+    rt.write_all(name)?;
+    print!(rt; " {}:", filled.answer)?;
     let next = filled.event;
     showing::event(rt, next)?;
     Ok(next)
 }
 
 fn near(rt: &impl Print, table: &[u8], event: Event) -> io::Result<Event> {
-    let new = given(rt, table, event, "wind", 1, 100, 100, 0)?;
-    let limit = given(rt, table, new, "wind", 2, 100, 130, 30)?;
-    let old = given(rt, table, limit, "wind", 3, 100, 131, 30)?;
-    let again = given(rt, table, old, "wind", 4, 100, 130, 31)?;
-    given(rt, table, again, "wind", 5, 100, 99, 30)
+    let new = given(rt, table, event, b"wind", 1, 100, 100, 0)?;
+    let limit = given(rt, table, new, b"wind", 2, 100, 130, 30)?;
+    let old = given(rt, table, limit, b"wind", 3, 100, 131, 30)?;
+    let again = given(rt, table, old, b"wind", 4, 100, 130, 31)?;
+    given(rt, table, again, b"wind", 5, 100, 99, 30)
 }
 
 fn far(rt: &impl Print, table: &[u8], event: Event) -> io::Result<Event> {
-    let limit = given(rt, table, event, "wind", 6, 0, MOST, MOST)?;
-    let old = given(rt, table, limit, "wind", 7, 0, MOST, MOST - 1)?;
-    let last = given(rt, table, old, "wind", 8, MOST, MOST, 0)?;
-    given(rt, table, last, "wind", 9, MOST, 0, MOST)
+    let limit = given(rt, table, event, b"wind", 6, 0, MOST, MOST)?;
+    let old = given(rt, table, limit, b"wind", 7, 0, MOST, MOST - 1)?;
+    let last = given(rt, table, old, b"wind", 8, MOST, MOST, 0)?;
+    given(rt, table, last, b"wind", 9, MOST, 0, MOST)
 }
 
 fn refused(rt: &impl Print, table: &[u8], event: Event) -> io::Result<Event> {
-    let name = given(rt, table, event, "wand", 1, 100, 131, 30)?;
-    given(rt, table, name, "rain", 1, 100, 131, 30)
+    let name = given(rt, table, event, b"wand", 1, 100, 131, 30)?;
+    given(rt, table, name, b"rain", 1, 100, 131, 30)
 }
 
 pub fn run(

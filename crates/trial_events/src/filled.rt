@@ -15,7 +15,7 @@ pub fn given(
     rt: &impl Print,
     table: &[u8],
     event: Event,
-    name: &str,
+    name: &[u8],
     reading: Reading,
     list: &[i64],
 ) -> io::Result<Event> {
@@ -23,8 +23,9 @@ pub fn given(
         println!(rt; "damaged")?;
         return Ok(event);
     }
-    let filled = filling::fill(table, event, name.as_bytes(), reading, list);
-    print!(rt; "{name} {}:", filled.answer)?;
+    let filled = filling::fill(table, event, name, reading, list);
+    rt.write_all(name)?;
+    print!(rt; " {}:", filled.answer)?;
     let next = filled.event;
     showing::event(rt, next)?;
     Ok(next)
@@ -44,7 +45,7 @@ fn of_kind(kind: usize) -> Reading {
 }
 
 // Readings of every kind for one attribute.
-fn every_kind(rt: &impl Print, table: &[u8], event: Event, name: &str) -> io::Result<Event> {
+fn every_kind(rt: &impl Print, table: &[u8], event: Event, name: &[u8]) -> io::Result<Event> {
     let mut next = event;
     let mut kind: usize = 0;
     while kind < 7 {
@@ -55,59 +56,73 @@ fn every_kind(rt: &impl Print, table: &[u8], event: Event, name: &str) -> io::Re
 }
 
 fn kinds(rt: &impl Print, table: &[u8], event: Event) -> io::Result<Event> {
-    let humidity = every_kind(rt, table, event, "humidity")?;
-    let rain = every_kind(rt, table, humidity, "rain")?;
-    let wind = every_kind(rt, table, rain, "wind")?;
-    let site = every_kind(rt, table, wind, "site")?;
-    let flags = every_kind(rt, table, site, "flags")?;
-    every_kind(rt, table, flags, "sky")
+    let humidity = every_kind(rt, table, event, b"humidity")?;
+    let rain = every_kind(rt, table, humidity, b"rain")?;
+    let wind = every_kind(rt, table, rain, b"wind")?;
+    let site = every_kind(rt, table, wind, b"site")?;
+    let flags = every_kind(rt, table, site, b"flags")?;
+    every_kind(rt, table, flags, b"sky")
 }
 
 fn scales(rt: &impl Print, table: &[u8], event: Event) -> io::Result<Event> {
-    let whole = given(rt, table, event, "humidity", Reading::Float(85, 0), &[])?;
-    let finest = given(rt, table, whole, "humidity", Reading::Float(-1, 28), &[])?;
-    let past = given(rt, table, finest, "humidity", Reading::Float(1, 29), &[])?;
-    let negative = given(rt, table, past, "humidity", Reading::Float(1, -1), &[])?;
-    given(rt, table, negative, "rain", Reading::Float(1, 29), &[])
+    let whole = given(rt, table, event, b"humidity", Reading::Float(85, 0), &[])?;
+    let finest = given(rt, table, whole, b"humidity", Reading::Float(-1, 28), &[])?;
+    let past = given(rt, table, finest, b"humidity", Reading::Float(1, 29), &[])?;
+    let negative = given(rt, table, past, b"humidity", Reading::Float(1, -1), &[])?;
+    given(rt, table, negative, b"rain", Reading::Float(1, 29), &[])
 }
 
 fn words(rt: &impl Print, table: &[u8], event: Event) -> io::Result<Event> {
-    let none = given(rt, table, event, "site", Reading::String(StringId(0)), &[])?;
+    let none = given(rt, table, event, b"site", Reading::String(StringId(0)), &[])?;
     let past = given(
         rt,
         table,
         none,
-        "site",
+        b"site",
         Reading::String(StringId(65536)),
         &[],
     )?;
-    let negative = given(rt, table, past, "site", Reading::String(StringId(-1)), &[])?;
-    let least = given(rt, table, negative, "sky", Reading::StringList, &[65535, 0])?;
-    let over = given(rt, table, least, "sky", Reading::StringList, &[65536, 0])?;
-    given(rt, table, over, "sky", Reading::StringList, &[1, -1])
+    let negative = given(rt, table, past, b"site", Reading::String(StringId(-1)), &[])?;
+    let least = given(
+        rt,
+        table,
+        negative,
+        b"sky",
+        Reading::StringList,
+        &[65535, 0],
+    )?;
+    let over = given(rt, table, least, b"sky", Reading::StringList, &[65536, 0])?;
+    given(rt, table, over, b"sky", Reading::StringList, &[1, -1])
 }
 
 fn lengths(rt: &impl Print, table: &[u8], event: Event) -> io::Result<Event> {
-    let empty = given(rt, table, event, "flags", Reading::IntegerList, &[])?;
-    let full = given(rt, table, empty, "flags", Reading::IntegerList, &LONG[..32])?;
-    let past = given(rt, table, full, "flags", Reading::IntegerList, &LONG)?;
-    let words = given(rt, table, past, "sky", Reading::StringList, &LONG[1..])?;
-    let repeats = given(rt, table, words, "sky", Reading::StringList, &[7; 33])?;
-    given(rt, table, repeats, "wind", Reading::Integer(4), &LONG)
+    let empty = given(rt, table, event, b"flags", Reading::IntegerList, &[])?;
+    let full = given(
+        rt,
+        table,
+        empty,
+        b"flags",
+        Reading::IntegerList,
+        &LONG[..32],
+    )?;
+    let past = given(rt, table, full, b"flags", Reading::IntegerList, &LONG)?;
+    let words = given(rt, table, past, b"sky", Reading::StringList, &LONG[1..])?;
+    let repeats = given(rt, table, words, b"sky", Reading::StringList, &[7; 33])?;
+    given(rt, table, repeats, b"wind", Reading::Integer(4), &LONG)
 }
 
 fn names(rt: &impl Print, table: &[u8], event: Event) -> io::Result<Event> {
-    let empty = given(rt, table, event, "", Reading::Integer(1), &[])?;
+    let empty = given(rt, table, event, b"", Reading::Integer(1), &[])?;
     let long = given(
         rt,
         table,
         empty,
-        "windwindwindwindwindwindwindwindw",
+        b"windwindwindwindwindwindwindwindw",
         Reading::Integer(1),
         &[],
     )?;
-    let part = given(rt, table, long, "win", Reading::Float(1, 29), &[])?;
-    given(rt, table, part, "wind ", Reading::Undefined, &[])
+    let part = given(rt, table, long, b"win", Reading::Float(1, 29), &[])?;
+    given(rt, table, part, b"wind ", Reading::Undefined, &[])
 }
 
 pub fn run(
