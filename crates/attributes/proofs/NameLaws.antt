@@ -9,10 +9,15 @@ use native.Mathlib.Numerals.{add-one}
 use native.Mathlib.Omega.{arith}
 use lib.ListN.{length, get_or, set, take, drop, length-drop}
 use lib.Seq.{sets, sets-eq, paste, paste-suc, take_all, length-take-le}
+use borrow.Author.Tests.{le-ltb}
+use Rattle.error.specs.Answers.{LimitPassed, number}
+use Rattle.lists.specs.AndLaws.{and_second}
 use Rattle.bytes_equal.specs.Bytes.{same_bytes}
-use Rattle.attributes.specs.Table.{name_limit, record_at, is_between, count_of, length_at, name_at, named}
+use Rattle.attributes.specs.declared.Definition.{Definition}
+use Rattle.attributes.specs.Table.{attribute_limit, name_limit, record_at, is_between, count_of, length_at, name_at, named}
 use Rattle.attributes.specs.TableLaws.{between}
-use Rattle.attributes.specs.Definitions.{padded, added}
+use Rattle.attributes.specs.Definitions.{padded, added, outcome, defined_of}
+use Rattle.attributes.specs.DefinitionsLaws.{outcome_limit}
 use Rattle.attributes.specs.AddedLaws.{padded_at, padded_length}
 
 -- ---- the part of a table from a record's name on: cut by the table's end, or as long as the record says
@@ -72,3 +77,8 @@ module _ (whole : List ℕ) (long : ℕ) (size : length whole ≡ name_limit) (t
 
   pub name_short : length (take long whole) ≤ name_limit
   name_short = omega (arith, name_taken, name_within)
+
+-- a full table takes no definition
+pub full_refused : (t : List ℕ) (d : Definition) (n : ℕ) → n ≡ count_of t → attribute_limit ≤ n
+    → outcome (number LimitPassed) t ≡ defined_of t d
+full_refused t d n e h = sym (outcome_limit t d (and_second _ _ (le-ltb _ _ (rw e at h))))

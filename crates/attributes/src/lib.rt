@@ -228,6 +228,7 @@ fn write_record(table: &mut [u8], kind: u8, name: &[u8])
 }
 
 // Defines one attribute more, or refuses and changes nothing.
+#[tactic(auto, using(crate::proofs::NameLaws::full_refused))]
 pub fn define(table: &mut [u8], definition: Definition) -> u8
     requires { length table.old ≡ table_size }
     ensures { outcome result table.new ≡ defined_of table.old definition }

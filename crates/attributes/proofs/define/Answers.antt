@@ -4,8 +4,11 @@ use mathlib.Core.Path.{sym, ap, ◌∙◌}
 use Prim.Native.Nat.{ℕ}
 use lib.ListN.{length}
 use mathlib.Core.Path.{◌≡◌}
-use borrow.Author.Tests.{lt-ltb, le-ltb}
-use Rattle.lists.specs.AndLaws.{and_first, and_second, and_both}
+use Prim.Native.Nat.{◌<◌}
+use native.Mathlib.Omega.{arith}
+use borrow.Author.Tests.{lt-ltb}
+use Rattle.attributes.specs.Table.{attribute_limit, count_of}
+use Rattle.lists.specs.AndLaws.{and_first, and_both}
 use Rattle.attributes.specs.Definitions.{name_of, added, outcome}
 use Rattle.attributes.specs.DefinitionsLaws.{outcome_limit, outcome_twice, outcome_done}
 use Rattle.attributes.proofs.NameLaws.{name_within, name_taken}
@@ -16,12 +19,6 @@ returns-then-not-between c =
     let a = c.args in
     let long = sym c.between.ensures ∙ c.if-not-between.true in
     sym (outcome_limit a.table.now a.definition (and_first _ _ long))
-
-pub returns-then-len-ge-ATTRIBUTE_LIMIT : goal.returns-then-len-ge-ATTRIBUTE_LIMIT
-returns-then-len-ge-ATTRIBUTE_LIMIT c =
-    let a = c.args in
-    let full = rw c.len.ensures at c.if-len-ge-ATTRIBUTE_LIMIT.true in
-    sym (outcome_limit a.table.now a.definition (and_second _ _ (le-ltb _ _ full)))
 
 pub slice_bounds-whole-end : goal.slice_bounds-whole-end
 slice_bounds-whole-end c =
@@ -41,7 +38,7 @@ pub returns-in-At : goal.returns-in-At
 returns-in-At c =
     let a = c.args in
     let fits = sym c.between.ensures ∙ c.if-not-between.false in
-    let room = rw c.len.ensures at c.if-len-ge-ATTRIBUTE_LIMIT.false in
+    let room : count_of a.table.now < attribute_limit = omega (arith, c.len.ensures) in
     let there = sym c.in-At.ensures in
     sym (outcome_twice a.table.now a.definition _ (and_both _ _ fits (lt-ltb _ _ room)) there)
 
@@ -49,7 +46,7 @@ pub returns-in-Nothing : goal.returns-in-Nothing
 returns-in-Nothing c =
     let a = c.args in
     let fits = sym c.between.ensures ∙ c.if-not-between.false in
-    let room = rw c.len.ensures at c.if-len-ge-ATTRIBUTE_LIMIT.false in
+    let room : count_of a.table.now < attribute_limit = omega (arith, c.len.ensures) in
     let new = sym c.in-Nothing.ensures in
     let kind = ap (λ (k : ℕ). added a.table.now k (name_of a.definition)) c.kind_number.ensures in
     ap (outcome 0) (c.write_record.ensures ∙ kind)
