@@ -1,4 +1,4 @@
--- Laws of `_and_`: what a joined test says of its two, and how one of them settles it. Assumes nothing.
+-- Laws of `◌and◌`: what a joined test says of its two, and how one of them settles it. Assumes nothing.
 use Rattle.std.specs.Prelude.{◌≡◌, refl, Bool, true, false, ◌⊎◌}
 use Rattle.std.proofs.Common.{sym, ap, ◌∙◌, true≢false, inl, inr}
 use Rattle.lists.specs.And.{◌and◌}
