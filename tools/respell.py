@@ -4,7 +4,8 @@
 usage: python3 tools/respell.py          at the top of the repository, once, after the kit's own respelling
 
 It goes by the names that specs/ and proofs/ declare. Types and modules keep their camel case; names of the library keep theirs; functions, fields
-and parameters of src/ are left as they are. A name that a file brings in from the library is not touched in that file.
+and parameters of src/ are left as they are. A name that a file brings in from the library is not touched in that file,
+and of a comment only what stands in backticks is turned.
 """
 
 import collections
@@ -83,8 +84,7 @@ def respell(text, names, rust, own):
             code = "".join(p if i % 2 else TOKEN.sub(turn, p) for i, p in enumerate(re.split(r'("(?:[^"\\]|\\.)*")', code)))
         else:
             code = TOKEN.sub(turn, code)
-        note = "".join(p if i % 2 == 0 else TOKEN.sub(turn, p) for i, p in enumerate(note.split("`"))) if note.count("`") == 0 else \
-            "`".join(TOKEN.sub(turn, p) if i % 2 else p for i, p in enumerate(note.split("`")))
+        note = "`".join(TOKEN.sub(turn, p) if i % 2 else p for i, p in enumerate(note.split("`")))
         out.append(code + note)
     return "\n".join(out)
 

@@ -1,37 +1,24 @@
--- Names and records as the code reads and writes them: the part of a table that is a name, the places of a name as they fill one after the
--- other, the fields of a record as they are stored.
+-- Names and records as the code reads and writes them: the places of a name as they fill one after the other, the fields of a record as
+-- they are stored, the part of a definition that is its name, and a full table.
 -- Assumes nothing.
 use mathlib.Core.Path.{◌≡◌, sym, ap, ◌∙◌}
 use mathlib.Core.Bool.{Bool, true}
 use mathlib.Core.List.{List, ◌++◌}
-use Prim.Native.Nat.{ℕ, suc, ◌+◌, ◌-◌, ◌≤◌, ◌<◌}
+use Prim.Native.Nat.{ℕ, suc, ◌+◌, ◌≤◌, ◌<◌}
 use native.Mathlib.Numerals.{add-one}
 use native.Mathlib.Omega.{arith}
-use lib.ListN.{length, get_or, set, take, drop, length-drop}
+use lib.ListN.{length, get_or, set, take, drop}
 use lib.Seq.{sets, sets-eq, paste, paste-suc, take_all, length-take-le}
 use borrow.Author.Tests.{le-ltb}
 use Rattle.error.specs.Answers.{LimitPassed, number}
 use Rattle.lists.specs.AndLaws.{and_second}
 use Rattle.bytes_equal.specs.Bytes.{same_bytes}
 use Rattle.attributes.specs.declared.Definition.{Definition}
-use Rattle.attributes.specs.Table.{attribute_limit, name_limit, record_at, is_between, count_of, length_at, name_at, named}
+use Rattle.attributes.specs.Table.{attribute_limit, name_limit, record_at, is_between, count_of, name_at, named}
 use Rattle.attributes.specs.TableLaws.{between}
 use Rattle.attributes.specs.Definitions.{padded, added, outcome, defined_of}
 use Rattle.attributes.specs.DefinitionsLaws.{outcome_limit}
 use Rattle.attributes.specs.AddedLaws.{padded_at, padded_length}
-
--- ---- the part of a table from a record's name on: cut by the table's end, or as long as the record says
-
-module _ (t : List ℕ) (i at long : ℕ) (place : at ≡ record_at i) (said : long ≡ length_at t i) where
-  pub name_cut : length t - (at + 2) < long → take (length t - (at + 2)) (drop (at + 2) t) ≡ name_at t i
-  name_cut short =
-      let e = length-drop (at + 2) t in
-      take_all (length t - (at + 2)) (drop (at + 2) t) (omega arith)
-      ∙ sym (take_all long (drop (at + 2) t) (omega arith))
-      ∙ rw (said, place)
-
-  pub name_entire : take (at + 2 + long - (at + 2)) (drop (at + 2) t) ≡ name_at t i
-  name_entire = let e : at + 2 + long - (at + 2) ≡ long = omega arith in rw (e, said, place)
 
 -- ---- the places of a name, filled up to k
 
@@ -74,9 +61,6 @@ module _ (whole : List ℕ) (long : ℕ) (size : length whole ≡ name_limit) (t
 
   pub name_taken : long ≡ length (take long whole)
   name_taken = sym (length-take-le long whole name_within)
-
-  pub name_short : length (take long whole) ≤ name_limit
-  name_short = omega (arith, name_taken, name_within)
 
 -- a full table takes no definition
 pub full_refused : (t : List ℕ) (d : Definition) (n : ℕ) → n ≡ count_of t → attribute_limit ≤ n

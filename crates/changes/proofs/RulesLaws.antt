@@ -2,7 +2,7 @@
 -- renumbered, and nothing else changes.
 --     rule_put_in, rule_taken_out, roots_renumbered
 --     rule_unread, renumber_more         one root more, as a loop renumbers it
---     place_exact, all_before, all_after     a live id is found at its place, by halving
+--     place_exact                        a live id is found at its place
 -- Assumes nothing.
 use mathlib.Core.Path.{◌≡◌, refl, sym, ap, ◌∙◌}
 use mathlib.Core.List.{List, map}
@@ -249,19 +249,3 @@ place_exact b id k up p i l e =
         | no v ↦ absurd (omega (arith, v, ne, up k i (omega (arith, v, ne)) l, p.after k (omega arith) (omega (arith, v, ne))))
       ]
     ]
-
--- as halving finds it
-module _ (b : List ℕ) (up : AscendingIds b) (id middle : ℕ) where
-  pub all_before : middle < rule_count b → (rule_at b middle).id < id → (i : ℕ) → i < middle + 1 → (rule_at b i).id < id
-  all_before l h i u =
-      elim (ℕ_discrete i middle) [
-        | yes e ↦ rw e h
-        | no ne ↦ omega (arith, up i middle (omega (arith, ne)) l)
-      ]
-
-  pub all_after : id ≤ (rule_at b middle).id → (i : ℕ) → middle ≤ i → i < rule_count b → id ≤ (rule_at b i).id
-  all_after h i u l =
-      elim (ℕ_discrete i middle) [
-        | yes e ↦ rw e h
-        | no ne ↦ omega (arith, up middle i (omega (arith, ne)) l)
-      ]

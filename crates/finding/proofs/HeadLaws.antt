@@ -83,6 +83,11 @@ pub record Against (limits : Limits) (b : List ℕ) (p : ℕ) (h k : Head) (o : 
   pub read : h ≡ head_at limits b p
   pub order : o ≡ key_order (head_key h) (head_key k)
 
+-- what two reads and their comparison tell
+pub against : {limits : Limits} {b : List ℕ} {p : ℕ} {h k : Head} {o : Order} → h ≡ head_at limits b p
+    → o ≡ key_order (head_key h) (head_key k) → Against limits b p h k o
+against read order = record { read = read; order = order }
+
 module _ {limits : Limits} {b : List ℕ} {p : ℕ} {h k : Head} {o : Order} (w : Against limits b p h k o) where
   heads_same : o ≡ Equal → head_key h ≡ head_key k
   heads_same e = order_equal (head_key h) (head_key k) (sym w.order ∙ e)

@@ -2,9 +2,7 @@
 -- Assumes nothing.
 use mathlib.Core.Path.{◌≡◌, sym, ap, ◌∙◌}
 use mathlib.Core.List.{List, map}
-use mathlib.Core.Bool.{Bool, true, false}
-use Prim.Native.Nat.{ℕ, ◌+◌, ◌≤◌, ◌<◌}
-use native.Mathlib.Omega.{arith}
+use Prim.Native.Nat.{ℕ, ◌≤◌, ◌<◌}
 use lib.IntN.{ℤ, pos}
 use lib.ListN.{length, get_or}
 use mir.Syntax.{w64}
@@ -13,10 +11,7 @@ use mir.ValLaws.{to_z-of_z}
 use Rattle.lists.specs.Tabulate.{tabulate}
 use Rattle.lists.proofs.TabulateLaws.{tabulate_get_or, map_tabulate}
 use Rattle.decimals.specs.declared.Order.TheVariants.{Less, Equal, Greater}
-use Rattle.store.specs.declared.Limits.{Limits}
-use Rattle.store.specs.Layout.{Within}
 use Rattle.finding.specs.KeyOrder.{key_order}
-use Rattle.finding.specs.Keys.{item_limit, Run}
 use Rattle.finding.specs.KeyOrderLaws.{table_less, table_greater, table_equal}
 
 -- the first i items are the same
@@ -40,15 +35,6 @@ children_table l = sym (tabulate_get_or l 0)
 pub elements_table : (l : List ℤ) → map (of_z w64) l ≡ tabulate (length l) (λ i. of_z w64 (get_or l i (pos 0)))
 elements_table l =
     ap (map (of_z w64)) (sym (tabulate_get_or l (pos 0))) ∙ map_tabulate (of_z w64) (length l) (λ i. get_or l i (pos 0))
-
--- ---- the run that is read lies within the limits, so its places fit 2 bytes
-
-limit_small : (join : Bool) (limits : Limits) → Within limits → item_limit join limits ≤ 65535
-limit_small true limits w = w.places
-limit_small false limits w = w.elements
-
-pub run_small : {join : Bool} {limits : Limits} {b : List ℕ} {from n : ℕ} → Run join limits b from n → from + n ≤ 65535
-run_small {join} {limits} r = omega (arith, r.room, limit_small join limits r.laid.within)
 
 -- a signed number that was read and handed on is told as the number its bits stand for
 pub element_bits : {u : ℕ} (x : ℤ) → SFits w64 x → u ≡ of_z w64 (to_z w64 (of_z w64 x)) → u ≡ of_z w64 x

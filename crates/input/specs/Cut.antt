@@ -15,6 +15,10 @@ use Rattle.input.specs.declared.Step.TheVariants.{Line, TooLong, More, End}
 abbrev pub part : List ℕ → ℕ → ℕ → List ℕ
 part b from to = take (to - from) (drop from b)
 
+-- before anything was read
+abbrev pub nothing_read : Window
+nothing_read = record { from = 0; to = 0; ended = false; passing = false }
+
 -- what was read and not handed out
 abbrev pub unread : List ℕ → Window → List ℕ
 unread b w = part b w.from w.to

@@ -3,8 +3,8 @@
 // passed over. Nothing can be said of what is read, but that nothing of it is lost or made up.
 #![tactic(auto)]
 
-ghost use Rattle.std.specs.Prelude.{◌≡◌, ◌≤◌, ◌<◌, length};
-ghost use Rattle.input.specs.Cut.{Fine, emptied_of, whole_of, part_of, cut_of};
+ghost use Rattle.std.specs.Prelude.{◌≡◌, ◌≤◌, ◌<◌, length, replicate};
+ghost use Rattle.input.specs.Cut.{nothing_read, Fine, emptied_of, whole_of, part_of, cut_of};
 ghost use Rattle.input.specs.Reading.{moved, Filled, Handed};
 
 use lines::LINE_LIMIT;
@@ -41,7 +41,9 @@ pub enum Step {
 }
 
 // Before anything was read.
-pub fn fresh() -> Window {
+pub fn fresh() -> Window
+    ensures { result ≡ nothing_read }
+{
     Window {
         from: 0,
         to: 0,
@@ -50,7 +52,10 @@ pub fn fresh() -> Window {
     }
 }
 
-pub fn buffer() -> [u8; BUFFER_SIZE] {
+// A buffer to be lent, all zeros.
+pub fn buffer() -> [u8; BUFFER_SIZE]
+    ensures { result ≡ replicate BUFFER_SIZE 0 }
+{
     [0u8; BUFFER_SIZE]
 }
 

@@ -1,6 +1,5 @@
 mod FirstLaws
 mod PartLaws
-mod SignLaws
 mod WritingLaws
 pub mod ColonLaws
 pub mod Trials

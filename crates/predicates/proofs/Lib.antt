@@ -2,3 +2,4 @@ pub mod AmountLaws
 pub mod MeaningLaws
 pub mod Trials
 pub mod Deciding
+pub mod ElementLaws

@@ -1,5 +1,5 @@
--- Laws of the test of one list, `list_fits`: its value by the tag, the start and the end, and what it tells where it holds. Assumes
--- nothing.
+-- Laws of the test of one list, `list_fits`: its value by the tag, the start and the end, and what it tells where it holds.
+-- Assumes nothing.
 use Rattle.std.specs.Prelude.{◌≡◌, refl, Bool, true, false, List, ℕ, ◌+◌, ◌≤◌, ◌<◌, eqb, leb, length, take, drop, ℤ}
 use Rattle.std.proofs.Common.{sym, ◌∙◌, arith, eqb-true, leb-true, eq-eqb, ne_eqb, le-leb}
 use Rattle.std.proofs.lemmas.Bool.{lt-leb}

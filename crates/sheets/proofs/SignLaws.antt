@@ -1,11 +1,9 @@
 -- A signed number read as a natural one: what the tests on its sign say.
 use mathlib.Core.Path.{◌≡◌, refl}
 use mathlib.Core.Bool.{true, false}
-use Prim.Native.Nat.{ℕ, ◌<◌, ◌^◌}
+use Prim.Native.Nat.{ℕ}
 use native.Mathlib.Omega.{arith}
 use borrow.Author.Tests.{ltb-true}
-use mir.Syntax.{w64}
-use mir.Val.{Fits, SFits}
 use lib.Dec.{T}
 use lib.IntN.{ℤ, pos, negsuc, nat_abs}
 use lib.Signed.{lt_z, non_neg}
@@ -19,10 +17,6 @@ below_zero (negsuc n) h = refl
 pub not_below : (z : ℤ) → lt_z z (pos 0) ≡ false → T (non_neg z)
 not_below (pos n) h = tt
 not_below (negsuc n) h = absurd (let l : ◌≡◌ {A = ℕ} 0 1 = cc in omega arith)
-
-pub not_below_fits : (z : ℤ) → SFits w64 z → lt_z z (pos 0) ≡ false → Fits w64 (nat_abs z)
-not_below_fits (pos n) s h = let l : n < 2 ^ 63 = s.sfits in omega arith
-not_below_fits (negsuc n) s h = absurd (let l : ◌≡◌ {A = ℕ} 0 1 = cc in omega arith)
 
 pub not_below_natural_of : (z : ℤ) → lt_z z (pos 0) ≡ false → nat_abs z ≡ natural_of z
 unfolding natural_of

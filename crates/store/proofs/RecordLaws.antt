@@ -1,47 +1,23 @@
 -- A record and a rule are read and written in their own bytes alone, and what was written is read.
---     record_read                        ten fields that were read are the record
 --     record_fits                        each field of a record that was read fits its width
 --     record_only, rule_only             what a write elsewhere leaves
---     only_put_record, only_put_rule       what a write reaches
+--     only_put_record, only_put_rule     what a write reaches
 --     record_back, rule_back             what was written is read
---     bytes_put_record, bytes_put_rule     bytes stay bytes
+--     bytes_put_record, bytes_put_rule   bytes stay bytes
 -- Assumes nothing.
-use mathlib.Core.Path.{◌≡◌, ap, ◌∙◌}
+use mathlib.Core.Path.{◌≡◌, ◌∙◌}
 use mathlib.Core.List.{List}
 use mathlib.Core.Logic.{inl, inr, ⊎_elim}
 use Prim.Native.Nat.{ℕ, ◌+◌, ◌≤◌, ◌<◌}
 use native.Mathlib.Omega.{arith}
 use lib.ListN.{length}
-use Rattle.words.specs.Word.{word, put}
+use Rattle.words.specs.Word.{put}
 use Rattle.words.specs.Frame.{Only, Outside, Bytes}
 use Rattle.words.proofs.WordLaws.{word_back}
 use Rattle.words.proofs.FrameLaws.{only_then, only_wide, only_put, word_only, word_within, word_after, bytes_put, word_lt}
 use Rattle.store.specs.declared.Record.{Record}
 use Rattle.store.specs.declared.Rule.{Rule}
 use Rattle.store.specs.Records.{record_in, RecordFits, put_record_in, rule_in, put_rule_in}
-
--- ten fields that were read from the place at are the record there
-pub record_read : (b : List ℕ) (at : ℕ) {from k a t s l z n i c u : ℕ} → from ≡ at
-    → k ≡ word 1 b from → a ≡ word 1 b (from + 1) → t ≡ word 1 b (from + 2) → s ≡ word 1 b (from + 3) → l ≡ word 1 b (from + 4)
-    → z ≡ word 1 b (from + 5) → n ≡ word 2 b (from + 6) → i ≡ word 4 b (from + 8) → c ≡ word 4 b (from + 12) → u ≡ word 8 b (from + 16)
-    → ◌≡◌ {A = Record}
-    (record { kind = k; attribute = a; tag = t; scale = s; level = l; size = z; length = n; start = i; cost = c; number = u })
-    (record_in b at)
-record_read b at e e0 e1 e2 e3 e4 e5 e6 e7 e8 e9 =
-    (λ j.
-    record {
-      kind = e0 j;
-      attribute = e1 j;
-      tag = e2 j;
-      scale = e3 j;
-      level = e4 j;
-      size = e5 j;
-      length = e6 j;
-      start = e7 j;
-      cost = e8 j;
-      number = e9 j;
-    })
-    ∙ ap (record_in b) e
 
 -- ---- what fits
 

@@ -10,6 +10,19 @@ mod writing;
 use attributes::{AttributeKind, Definition};
 use std::io;
 
+// The names of the trials' attributes, each in the places of a definition.
+const HUMIDITY: [u8; 32] = *b"humidity                        ";
+
+const RAIN: [u8; 32] = *b"rain                            ";
+
+const WIND: [u8; 32] = *b"wind                            ";
+
+const SITE: [u8; 32] = *b"site                            ";
+
+const FLAGS: [u8; 32] = *b"flags                           ";
+
+const SKY: [u8; 32] = *b"sky                             ";
+
 // Defines one attribute of the trials, with a name of at most 32 bytes.
 fn defined(
     rt: &impl Print,
@@ -24,48 +37,12 @@ fn defined(
 
 // The six attributes of the trials.
 fn trial_table(rt: &impl Print, table: &mut [u8; attributes::TABLE_SIZE]) -> io::Result<()> {
-    defined(
-        rt,
-        table,
-        *b"humidity                        ",
-        8,
-        AttributeKind::Float,
-    )?;
-    defined(
-        rt,
-        table,
-        *b"rain                            ",
-        4,
-        AttributeKind::Boolean,
-    )?;
-    defined(
-        rt,
-        table,
-        *b"wind                            ",
-        4,
-        AttributeKind::Integer,
-    )?;
-    defined(
-        rt,
-        table,
-        *b"site                            ",
-        4,
-        AttributeKind::String,
-    )?;
-    defined(
-        rt,
-        table,
-        *b"flags                           ",
-        5,
-        AttributeKind::IntegerList,
-    )?;
-    defined(
-        rt,
-        table,
-        *b"sky                             ",
-        3,
-        AttributeKind::StringList,
-    )?;
+    defined(rt, table, HUMIDITY, 8, AttributeKind::Float)?;
+    defined(rt, table, RAIN, 4, AttributeKind::Boolean)?;
+    defined(rt, table, WIND, 4, AttributeKind::Integer)?;
+    defined(rt, table, SITE, 4, AttributeKind::String)?;
+    defined(rt, table, FLAGS, 5, AttributeKind::IntegerList)?;
+    defined(rt, table, SKY, 3, AttributeKind::StringList)?;
     println!(rt)
 }
 

@@ -1,64 +1,16 @@
--- Signed numbers in two's complement: a negative z is −1 − n, and its 64 bits are 2 ^ 64 − 1 − n, so no cast loses bits. Then the laws of
--- words and frames for a signed number in 8 bytes.
--- Assumes nothing.
-use mathlib.Core.Path.{◌≡◌, refl, sym, ap, ◌∙◌}
+-- The laws of words and frames for a signed number in 8 bytes, in two's complement. Assumes nothing.
+use mathlib.Core.Path.{◌≡◌, sym, ap, ◌∙◌}
 use mathlib.Core.List.{List}
-use mathlib.Core.Bool.{true, false}
-use Prim.Native.Nat.{ℕ, zero, suc, ◌+◌, ◌-◌, ◌≤◌, ◌<◌}
-use native.Mathlib.Nat.{zero-add}
-use native.Mathlib.Omega.{arith}
-use lib.IntN.{ℤ, pos, negsuc, ◌-ℤ◌, nat_abs}
+use Prim.Native.Nat.{ℕ, ◌+◌, ◌≤◌}
+use lib.IntN.{ℤ}
 use lib.ListN.{length}
-use lib.Signed.{mag, lt_z, non_neg}
-use lib.Dec.{T, ltb}
-use borrow.Author.Tests.{le-ltb}
 use mir.Syntax.{w64}
 use mir.Val.{to_z, of_z, Fits, SFits}
-use mir.ValLaws.{to_z_pos, to_z-of_z, of_z-to_z, to_z-Fits, of_z_fits}
+use mir.ValLaws.{to_z-of_z, of_z-to_z, to_z-Fits, of_z_fits}
 use Rattle.words.specs.Word.{word, signed_word, put_signed}
 use Rattle.words.specs.Frame.{Only, Outside, Bytes}
 use Rattle.words.proofs.WordLaws.{word_back}
 use Rattle.words.proofs.FrameLaws.{only_put, word_only, word_within, bytes_put, word_lt}
-
--- −1 − n
-from_end : (n : ℕ) → negsuc 0 -ℤ pos n ≡ negsuc n
-from_end zero = refl
-from_end (suc n) = rw zero-add
-
--- −1 − z, for a negative z
-to_end : (z : ℤ) → lt_z z (pos 0) ≡ true → negsuc 0 -ℤ z ≡ pos (mag z)
-to_end (pos n) h = let e : ltb n 0 ≡ false = le-ltb n 0 (omega arith) in cc
-to_end (negsuc n) h = rw (le-ltb (suc n) 1 (omega arith)) (ap pos (omega arith))
-
--- the bits of a negative z
-pub bits_negative : (z : ℤ) → lt_z z (pos 0) ≡ true → SFits w64 z → 18446744073709551615 - mag z ≡ of_z w64 z
-bits_negative (pos n) h f = let e : ltb n 0 ≡ false = le-ltb n 0 (omega arith) in cc
-bits_negative (negsuc n) h f = omega (arith, f.sfits)
-
--- a z that is not negative is its own bits
-pub bits_natural : (z : ℤ) → lt_z z (pos 0) ≡ false → (T (non_neg z) × (mag z ≡ nat_abs z) × (nat_abs z ≡ of_z w64 z))
-bits_natural (pos n) h = (tt, refl, refl)
-bits_natural (negsuc n) h = let z : ◌≡◌ {A = ℕ} 0 1 = cc in absurd (omega arith)
-
--- the same of a z that was read back from its bits
-module _ (z : ℤ) (f : SFits w64 z) where
-  pub negative_test : lt_z (to_z w64 (of_z w64 z)) (pos 0) ≡ true → lt_z z (pos 0) ≡ true
-  negative_test h = rw (to_z-of_z w64 z f) at h
-
-  pub natural_test : lt_z (to_z w64 (of_z w64 z)) (pos 0) ≡ false → lt_z z (pos 0) ≡ false
-  natural_test h = rw (to_z-of_z w64 z f) at h
-
-  pub negative_end : lt_z z (pos 0) ≡ true → negsuc 0 -ℤ to_z w64 (of_z w64 z) ≡ pos (mag z)
-  negative_end h = rw (to_z-of_z w64 z f) (to_end z h)
-
-  pub negative_back : lt_z z (pos 0) ≡ true → to_z w64 (of_z w64 (negsuc 0 -ℤ to_z w64 (of_z w64 z))) ≡ pos (mag z)
-  negative_back h = rw (negative_end h) (to_z-of_z w64 (pos (mag z)) (record { sfits = f.sfits }))
-
--- a number whose top bit is set, counted from the end
-pub top_bit : (u : ℕ) → 9223372036854775808 ≤ u → u < 18446744073709551616
-    → negsuc 0 -ℤ to_z w64 (18446744073709551615 - u) ≡ negsuc (18446744073709551615 - u)
-top_bit u h l =
-    rw (to_z_pos w64 (18446744073709551615 - u) (omega arith)) (from_end (18446744073709551615 - u))
 
 -- equal bits, equal numbers
 pub same_bits : (y z : ℤ) → SFits w64 y → SFits w64 z → of_z w64 y ≡ of_z w64 z → y ≡ z

@@ -7,7 +7,8 @@ use borrow.Author.Rules.{rules}
 use Rattle.changes.proofs.insert_entry.Goals as goal
 
 pub loop-left-preserved : goal.loop-left-preserved
-loop-left-preserved c = let a = c.args in
+loop-left-preserved c =
+    let a = c.args in
     let h = c.loop-left in (
       raise_more (entry_at a.limits) (put_entry a.limits) a.k h.left (omega arith) h.invariant.0
           c.get_entry-moved.ensures

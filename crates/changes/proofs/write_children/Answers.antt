@@ -13,7 +13,8 @@ unfolding wrote
 loop-k-init c = (refl, search rules, search rules)
 
 pub loop-k-preserved : goal.loop-k-preserved
-loop-k-preserved c = let a = c.args in
+loop-k-preserved c =
+    let a = c.args in
     let h = c.loop-k in
     let next = wrote_more 2 a.bytes.now (λ j. places_at a.limits + 2 * (a.at + j)) (λ j. get_or a.children.now j 0) h.k in
     (next h.invariant.0 c.put_place.ensures, search rules, search rules)

@@ -15,7 +15,8 @@ unfolding wrote
 loop-k-init c = (record { bytes = refl; whole = λ j u. absurd (omega arith) }, search rules, search rules)
 
 pub loop-k-preserved : goal.loop-k-preserved
-loop-k-preserved c = let a = c.args in
+loop-k-preserved c =
+    let a = c.args in
     let h = c.loop-k in
     let f : SFits w64 (get_or a.list.now h.k (pos 0)) = record { sfits = c.unsigned-arg-1.given } in (
       elements_more a.limits a.bytes.now a.at h.k a.list.now f h.invariant.0

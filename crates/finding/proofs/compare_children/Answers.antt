@@ -6,20 +6,13 @@ use Rattle.finding.proofs.compare_children.Goals as goal
 
 pub returns-then-x-y : goal.returns-then-x-y
 returns-then-x-y c =
-    let args = c.args in
-    let loop = c.loop-i in
-    let loop-test = c.loop-i-test in
-    items_less (children_table args.children.now) loop.i loop.invariant.1 loop-test.true (omega arith)
+    let at = c.loop-i in
+    items_less (children_table c.args.children.now) at.i at.invariant.1 c.loop-i-test.true (omega arith)
 
 pub returns-then-y-x : goal.returns-then-y-x
 returns-then-y-x c =
-    let args = c.args in
-    let loop = c.loop-i in
-    let loop-test = c.loop-i-test in
-    items_greater (children_table args.children.now) loop.i loop.invariant.1 loop-test.true (omega arith)
+    let at = c.loop-i in
+    items_greater (children_table c.args.children.now) at.i at.invariant.1 c.loop-i-test.true (omega arith)
 
 pub returns : goal.returns
-returns c =
-    let args = c.args in
-    let loop = c.loop-i in
-    items_equal (children_table args.children.now) loop.i loop.invariant.1 c.loop-i-test.false
+returns c = let at = c.loop-i in items_equal (children_table c.args.children.now) at.i at.invariant.1 c.loop-i-test.false

@@ -9,26 +9,17 @@ use Rattle.finding.proofs.compare_elements.Goals as goal
 
 pub returns-then-x-y : goal.returns-then-x-y
 returns-then-x-y c =
-    let args = c.args in
-    let loop = c.loop-i in
-    let unsigned-arg = c.unsigned-arg-1 in
-    let unsigned = c.unsigned-y in
-    let loop-test = c.loop-i-test in
-    let y = element_bits (get_or args.list.now loop.i (pos 0)) (sfits_of unsigned-arg.given) unsigned.ensures in
-    items_less (elements_table args.list.now) loop.i loop.invariant.1 loop-test.true (omega arith)
+    let at = c.loop-i in
+    let list = c.args.list.now in
+    let y = element_bits (get_or list at.i (pos 0)) (sfits_of c.unsigned-arg-1.given) c.unsigned-y.ensures in
+    items_less (elements_table list) at.i at.invariant.1 c.loop-i-test.true (omega arith)
 
 pub returns-then-y-x : goal.returns-then-y-x
 returns-then-y-x c =
-    let args = c.args in
-    let loop = c.loop-i in
-    let unsigned-arg = c.unsigned-arg-1 in
-    let unsigned = c.unsigned-y in
-    let loop-test = c.loop-i-test in
-    let y = element_bits (get_or args.list.now loop.i (pos 0)) (sfits_of unsigned-arg.given) unsigned.ensures in
-    items_greater (elements_table args.list.now) loop.i loop.invariant.1 loop-test.true (omega arith)
+    let at = c.loop-i in
+    let list = c.args.list.now in
+    let y = element_bits (get_or list at.i (pos 0)) (sfits_of c.unsigned-arg-1.given) c.unsigned-y.ensures in
+    items_greater (elements_table list) at.i at.invariant.1 c.loop-i-test.true (omega arith)
 
 pub returns : goal.returns
-returns c =
-    let args = c.args in
-    let loop = c.loop-i in
-    items_equal (elements_table args.list.now) loop.i loop.invariant.1 c.loop-i-test.false
+returns c = let at = c.loop-i in items_equal (elements_table c.args.list.now) at.i at.invariant.1 c.loop-i-test.false

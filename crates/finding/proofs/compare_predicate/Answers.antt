@@ -1,6 +1,5 @@
 -- `finding::compare_predicate` meets its contract: the heads decide, or leave it to the items. Assumes nothing.
-use Rattle.decimals.specs.declared.Order.TheVariants.{Less, Equal, Greater}
-use Rattle.finding.proofs.HeadLaws.{candidate_key_lem, run_inside, Against, counted_run}
+use Rattle.finding.proofs.HeadLaws.{candidate_key_lem, run_inside, against, counted_run}
 use Rattle.finding.proofs.HeadLaws.{settled_less, settled_equal, settled_greater}
 use lib.ListN.{length, length-map}
 use mathlib.Core.List.{map}
@@ -12,15 +11,13 @@ use Rattle.finding.proofs.compare_predicate.Goals as goal
 pub compare_elements-requires : goal.compare_elements-requires
 compare_elements-requires c =
     let a = c.args in
-    let heads : Against a.limits a.bytes.now a.p c.get_head-a.result c.candidate_head-b.result Equal
-    = record { read = c.get_head-a.ensures; order = c.in-Equal.ensures } in
+    let heads = against {k = c.candidate_head-b.result} c.get_head-a.ensures c.in-Equal.ensures in
     run_inside (counted_run heads refl a.content (length a.elements.now) c.candidate_head-b.ensures) c.requires
 
 pub returns-in-Less : goal.returns-in-Less
 returns-in-Less c =
     let a = c.args in
-    let heads : Against a.limits a.bytes.now a.p c.get_head-a.result c.candidate_head-b.result Less
-    = record { read = c.get_head-a.ensures; order = c.in-Less.ensures } in
+    let heads = against {k = c.candidate_head-b.result} c.get_head-a.ensures c.in-Less.ensures in
     settled_less heads _
     (candidate_key_lem a.content (map (of_z w64) a.elements.now) (length a.elements.now) c.candidate_head-b.ensures
     (sym (length-map a.elements.now (of_z w64)))) refl
@@ -28,8 +25,7 @@ returns-in-Less c =
 pub returns-in-Equal : goal.returns-in-Equal
 returns-in-Equal c =
     let a = c.args in
-    let heads : Against a.limits a.bytes.now a.p c.get_head-a.result c.candidate_head-b.result Equal
-    = record { read = c.get_head-a.ensures; order = c.in-Equal.ensures } in
+    let heads = against {k = c.candidate_head-b.result} c.get_head-a.ensures c.in-Equal.ensures in
     let run = counted_run heads refl a.content (length a.elements.now) c.candidate_head-b.ensures in
     settled_equal heads _
     (candidate_key_lem a.content (map (of_z w64) a.elements.now) (length a.elements.now) c.candidate_head-b.ensures
@@ -38,8 +34,7 @@ returns-in-Equal c =
 pub returns-in-Greater : goal.returns-in-Greater
 returns-in-Greater c =
     let a = c.args in
-    let heads : Against a.limits a.bytes.now a.p c.get_head-a.result c.candidate_head-b.result Greater
-    = record { read = c.get_head-a.ensures; order = c.in-Greater.ensures } in
+    let heads = against {k = c.candidate_head-b.result} c.get_head-a.ensures c.in-Greater.ensures in
     settled_greater heads _
     (candidate_key_lem a.content (map (of_z w64) a.elements.now) (length a.elements.now) c.candidate_head-b.ensures
     (sym (length-map a.elements.now (of_z w64)))) refl

@@ -5,16 +5,10 @@ use native.Mathlib.Omega.{arith}
 use Rattle.finding.proofs.compare_runs.Goals as goal
 
 pub returns-then-x-y : goal.returns-then-x-y
-returns-then-x-y c =
-    let loop = c.loop-i in
-    let loop-test = c.loop-i-test in
-    items_less refl loop.i loop.invariant.1 loop-test.true (omega arith)
+returns-then-x-y c = let at = c.loop-i in items_less refl at.i at.invariant.1 c.loop-i-test.true (omega arith)
 
 pub returns-then-y-x : goal.returns-then-y-x
-returns-then-y-x c =
-    let loop = c.loop-i in
-    let loop-test = c.loop-i-test in
-    items_greater refl loop.i loop.invariant.1 loop-test.true (omega arith)
+returns-then-y-x c = let at = c.loop-i in items_greater refl at.i at.invariant.1 c.loop-i-test.true (omega arith)
 
 pub returns : goal.returns
-returns c = items_equal refl c.loop-i.i c.loop-i.invariant.1 c.loop-i-test.false
+returns c = let at = c.loop-i in items_equal refl at.i at.invariant.1 c.loop-i-test.false

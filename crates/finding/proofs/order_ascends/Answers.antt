@@ -13,27 +13,19 @@ returns-then-count-p c = mark_past _ _ _ c.loop-k.k c.loop-k-test.true (omega ar
 
 pub rises-requires : goal.rises-requires
 rises-requires c =
-    let loop = c.loop-k in
-    let loop-test = c.loop-k-test in
-    let pre = c.requires in
-    mark_neighbours _ _ _ loop.k loop-test.true loop.invariant.1 (omega arith) pre
+    let at = c.loop-k in
+    mark_neighbours _ _ _ at.k c.loop-k-test.true at.invariant.1 (omega arith) c.requires
 
 pub returns-then-not-rises : goal.returns-then-not-rises
-returns-then-not-rises c =
-    let loop = c.loop-k in
-    let loop-test = c.loop-k-test in
-    let rises = c.rises in
-    mark_falls _ _ _ loop.k loop-test.true (sym rises.ensures ∙ c.if-not-rises.true)
+returns-then-not-rises c = mark_falls _ _ _ c.loop-k.k c.loop-k-test.true (sym c.rises.ensures ∙ c.if-not-rises.true)
 
 pub loop-k-preserved : goal.loop-k-preserved
 loop-k-preserved c =
-    let loop = c.loop-k in
-    let loop-test = c.loop-k-test in
-    let rises = c.rises in
-    let up = sym rises.ensures ∙ c.if-not-rises.false in
-    (omega arith, mark_more _ _ _ loop.k loop-test.true loop.invariant.1 (omega arith) up)
+    let at = c.loop-k in
+    let up = sym c.rises.ensures ∙ c.if-not-rises.false in
+    (omega arith, mark_more _ _ _ at.k c.loop-k-test.true at.invariant.1 (omega arith) up)
 
 pub returns : goal.returns
 returns c =
-    let loop = c.loop-k in
-    mark_whole _ _ _ loop.k loop.invariant.0 c.loop-k-test.false loop.invariant.1
+    let at = c.loop-k in
+    mark_whole _ _ _ at.k at.invariant.0 c.loop-k-test.false at.invariant.1

@@ -2,10 +2,9 @@
 use mathlib.Core.Path.{sym, ◌∙◌}
 use native.Mathlib.Omega.{arith}
 use borrow.Author.Rules.{sfits_of}
-use mir.Syntax.{w64}
-use mir.ValLaws.{to_z-of_z}
 use mir.Facts.{to_z-of_z as read_back}
 use Rattle.lists.proofs.MergingLaws.{inside_merges, skip_right, inside_not, inside_both, inside_over, inside_end, longer}
+use Rattle.predicates.proofs.ElementLaws.{element_told}
 use Rattle.predicates.proofs.elements.all_of.Goals as goal
 
 pub returns-then-n-list : goal.returns-then-n-list
@@ -13,49 +12,36 @@ returns-then-n-list c = sym (longer _ _ c.requires (rw c.count-n.ensures at c.if
 
 pub returns-then-n-j : goal.returns-then-n-j
 returns-then-n-j c =
-    let count = c.count-n.ensures in
     let at = c.loop-i in
-    sym (at.invariant.2 ∙ inside_over _ _ at.i at.j c.loop-i-test.true (rw count at c.if-n-j.true))
+    sym (at.invariant.2 ∙ inside_over _ _ at.i at.j c.loop-i-test.true (rw c.count-n.ensures at c.if-n-j.true))
 
 pub returns-then-x-y : goal.returns-then-x-y
 returns-then-x-y c =
-    let up = c.requires in
-    let count = c.count-n.ensures in
     let at = c.loop-i in
-    let left = c.loop-i-test.true in
-    let right = rw count at c.if-n-j.false in
+    let right = rw c.count-n.ensures at c.if-n-j.false in
     let x = c.x-1.given in
-    let read = c.element-y in
-    let y = to_z-of_z w64 read.result (record { sfits = read.type_inv }) ∙ read.ensures in
+    let y = element_told c.element-y.type_inv c.element-y.ensures in
     let above = rw (read_back (sfits_of x), y) at c.if-x-y.true in
-    sym (at.invariant.2 ∙ inside_not _ _ at.i at.j up left right above)
+    sym (at.invariant.2 ∙ inside_not _ _ at.i at.j c.requires c.loop-i-test.true right above)
 
 pub loop-i-preserved-then-y-x : goal.loop-i-preserved-then-y-x
 loop-i-preserved-then-y-x c =
-    let up = c.requires in
-    let count = c.count-n.ensures in
     let at = c.loop-i in
-    let left = c.loop-i-test.true in
-    let right = rw count at c.if-n-j.false in
+    let right = rw c.count-n.ensures at c.if-n-j.false in
     let x = c.x-1.given in
-    let read = c.element-y in
-    let y = to_z-of_z w64 read.result (record { sfits = read.type_inv }) ∙ read.ensures in
+    let y = element_told c.element-y.type_inv c.element-y.ensures in
     let below = rw (y, read_back (sfits_of x)) at c.if-y-x.true in
-    (omega arith, omega arith, at.invariant.2 ∙ skip_right _ _ at.i at.j up left right inside_merges below)
+    (omega arith, omega arith, at.invariant.2 ∙ skip_right _ _ at.i at.j c.requires c.loop-i-test.true right inside_merges below)
 
 pub loop-i-preserved : goal.loop-i-preserved
 loop-i-preserved c =
-    let up = c.requires in
-    let count = c.count-n.ensures in
     let at = c.loop-i in
-    let left = c.loop-i-test.true in
-    let right = rw count at c.if-n-j.false in
+    let right = rw c.count-n.ensures at c.if-n-j.false in
     let x = c.x-1.given in
-    let read = c.element-y in
-    let y = to_z-of_z w64 read.result (record { sfits = read.type_inv }) ∙ read.ensures in
+    let y = element_told c.element-y.type_inv c.element-y.ensures in
     let not_below = rw (y, read_back (sfits_of x)) at c.if-y-x.false in
-    let not-above = rw (read_back (sfits_of x), y) at c.if-x-y.false in
-    (omega arith, omega arith, at.invariant.2 ∙ inside_both _ _ at.i at.j up left right not_below not-above)
+    let not_above = rw (read_back (sfits_of x), y) at c.if-x-y.false in
+    (omega arith, omega arith, at.invariant.2 ∙ inside_both _ _ at.i at.j c.requires c.loop-i-test.true right not_below not_above)
 
 pub returns : goal.returns
 returns c = let at = c.loop-i in sym (at.invariant.2 ∙ inside_end _ _ at.i at.j c.loop-i-test.false)
