@@ -3,7 +3,7 @@
 // passed over. Nothing can be said of what is read, but that nothing of it is lost or made up.
 #![tactic(auto)]
 
-ghost use Rattle.std.specs.Prelude.{◌≡◌, ◌≤◌, ◌<◌, length, replicate};
+ghost use Rattle.std.specs.Prelude.{◌≡◌, ◌≤◌, ◌<◌, length, slice_index, EachIndex};
 ghost use Rattle.input.specs.Cut.{nothing_read, Fine, emptied_of, whole_of, part_of, cut_of};
 ghost use Rattle.input.specs.Reading.{moved, Filled, Handed};
 
@@ -54,7 +54,7 @@ pub fn fresh() -> Window
 
 // A buffer to be lent, all zeros.
 pub fn buffer() -> [u8; BUFFER_SIZE]
-    ensures { result ≡ replicate BUFFER_SIZE 0 }
+    ensures { EachIndex result (λ k. slice_index result k ≡ 0) }
 {
     [0u8; BUFFER_SIZE]
 }
