@@ -1,1 +1,3 @@
 mod NameLaws
+pub mod RangeLaws
+mod SoundTold

@@ -4,13 +4,13 @@
 --     kind_kept, name_kept, kind_new, name_new    the attributes
 --     one_more                                    a sound table stays sound, its attributes are kept and the new one stands after them
 -- Assumes nothing.
-use Rattle.std.specs.Prelude.{◌≡◌, refl, ◌⊎◌, List, [], ◌∷◌, ◌++◌, ℕ, zero, suc, ◌+◌, ◌-◌, ◌≤◌, ◌<◌, length, get_or, drop, set, replicate}
+use Rattle.std.specs.Prelude.{◌≡◌, refl, ◌⊎◌, None, List, [], ◌∷◌, ◌++◌, ℕ, zero, suc, ◌+◌, ◌-◌, ◌≤◌, ◌<◌}
+use Rattle.std.specs.Prelude.{length, get_or, drop, set, replicate}
 use Rattle.std.proofs.Common.{sym, ◌∙◌, inl, arith, length-append, get_or-take, get_or-drop, ext_get_or}
 use Rattle.std.proofs.Math.Decide.{ℕ_discrete}
 use Rattle.std.proofs.lemmas.List.{length-replicate}
 use Rattle.std.proofs.Math.ListN.{length-set}
 use Rattle.std.proofs.Math.Seq.{length-sets, get_or-set_same, get_or-set_other}
-use Rattle.attributes.specs.declared.Found.TheVariants.{Nothing}
 use Rattle.attributes.specs.Kinds.{kind_count}
 use Rattle.attributes.specs.Table.{attribute_limit, name_limit, record_size, table_size, record_at}
 use Rattle.attributes.specs.Table.{count_of, kind_at, length_at, name_at, by_name}
@@ -125,7 +125,7 @@ module _ (t : List ℕ) (kind : ℕ) (n : List ℕ)
       go (no ne) = old i (omega (arith, ne, added_count))
 
   -- in a sound table a new name and a kind keep the marks
-  module _ (s : Sound t) (kinded : (1 ≤ kind) × (kind ≤ kind_count)) (some : 1 ≤ length n) (new : by_name t n ≡ Nothing) where
+  module _ (s : Sound t) (kinded : (1 ≤ kind) × (kind ≤ kind_count)) (some : 1 ≤ length n) (new : by_name t n ≡ None) where
     name_old : (i : ℕ) → i < count_of t → name_at (added t kind n) i ≡ name_at t i
     name_old i l = name_kept i l (s.lengths i l).1
 

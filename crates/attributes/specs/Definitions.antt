@@ -1,12 +1,14 @@
 -- What defining one attribute more answers, and the table that it leaves. Laws in `AddedLaws` and `DefinitionsLaws`.
 -- Assumes nothing.
 use Rattle.std.specs.Prelude.{Bool, cond, List, ◌∷◌, ◌++◌, ℕ, ◌+◌, ◌-◌, eqb, ltb, length, take, set, replicate}
+use Rattle.std.specs.Option.{is_none}
 use Rattle.std.proofs.lemmas.List.Edits.{sets}
-use Rattle.error.specs.Answers.{Answer, Done, LimitPassed, NameTwice, number}
+use Rattle.error.specs.Answers.{Answer, Done, Refused, number}
+use Rattle.error.specs.declared.Refusal.TheVariants.{LimitPassed, NameTwice}
 use Rattle.lists.specs.And.{◌and◌}
 use Rattle.attributes.specs.declared.Definition.{Definition}
 use Rattle.attributes.specs.Kinds.{kind_number}
-use Rattle.attributes.specs.Table.{attribute_limit, name_limit, record_at, is_between, count_of, by_name, nowhere}
+use Rattle.attributes.specs.Table.{attribute_limit, name_limit, record_at, is_between, count_of, by_name}
 
 -- ---- the answer
 
@@ -20,7 +22,7 @@ within_limits t d = is_between 1 d.length name_limit and ltb (count_of t) attrib
 
 unfoldable pub definition_answer : List ℕ → Definition → Answer
 definition_answer t d =
-    cond (within_limits t d) (cond (nowhere (by_name t (name_of d))) Done NameTwice) LimitPassed
+    cond (within_limits t d) (cond (is_none (by_name t (name_of d))) Done (Refused NameTwice)) (Refused LimitPassed)
 
 -- ---- the table
 

@@ -4,19 +4,20 @@
 --     done_accepted, defines                        a definition taken into a sound table adds one attribute
 --     outcome_length, outcome_sound                 the table stays as long as it was, and sound, refused or not
 -- Assumes nothing.
-use Rattle.std.specs.Prelude.{◌≡◌, refl, Bool, true, false, cond, List, ℕ, ◌≤◌, ◌<◌, length}
+use Rattle.std.specs.Prelude.{◌≡◌, refl, Bool, true, false, cond, List, ℕ, ◌≤◌, ◌<◌, length, None, Some}
+use Rattle.std.specs.Option.{is_none}
 use Rattle.std.proofs.Math.Decide.{ℕ_discrete}
 use Rattle.std.proofs.Common.{arith, length-take-le}
 use borrow.Author.Tests.{ltb-true, eq-eqb, ne_eqb}
-use Rattle.error.specs.Answers.{Done, LimitPassed, NameTwice, number}
+use Rattle.error.specs.Answers.{Done, Refused, number}
+use Rattle.error.specs.declared.Refusal.TheVariants.{LimitPassed, NameTwice}
 use Rattle.error.proofs.AnswersLaws.{one_number_each}
 use Rattle.lists.specs.AndLaws.{and_left, and_right}
 use Rattle.attributes.specs.declared.AttributeId.{AttributeId}
 use Rattle.attributes.specs.declared.Definition.{Definition}
-use Rattle.attributes.specs.declared.Found.TheVariants.{At, Nothing}
 use Rattle.attributes.specs.Kinds.{kind_number}
 use Rattle.attributes.specs.KindsLaws.{kind_range}
-use Rattle.attributes.specs.Table.{attribute_limit, name_limit, count_of, by_name, nowhere}
+use Rattle.attributes.specs.Table.{attribute_limit, name_limit, count_of, by_name}
 use Rattle.attributes.specs.TableLaws.{between, nowhere_nothing}
 use Rattle.attributes.specs.Sound.{Sound}
 use Rattle.attributes.specs.Definitions.{name_of, within_limits, definition_answer, defined, outcome, defined_of}
@@ -25,16 +26,16 @@ use Rattle.attributes.specs.AddedLaws.{OneMore, added_length, one_more}
 -- ---- the outcome by cases
 
 module _ (t : List ℕ) (d : Definition) where
-  pub outcome_limit : within_limits t d ≡ false → defined_of t d ≡ outcome (number LimitPassed) t
+  pub outcome_limit : within_limits t d ≡ false → defined_of t d ≡ outcome (number (Refused LimitPassed)) t
   unfolding defined_of definition_answer
   outcome_limit h = rw h
 
-  pub outcome_twice : (i : AttributeId) → within_limits t d ≡ true → by_name t (name_of d) ≡ At i
-      → defined_of t d ≡ outcome (number NameTwice) t
+  pub outcome_twice : (i : AttributeId) → within_limits t d ≡ true → by_name t (name_of d) ≡ Some i
+      → defined_of t d ≡ outcome (number (Refused NameTwice)) t
   unfolding defined_of definition_answer
   outcome_twice i h e = rw (h, e)
 
-  pub outcome_done : within_limits t d ≡ true → by_name t (name_of d) ≡ Nothing
+  pub outcome_done : within_limits t d ≡ true → by_name t (name_of d) ≡ None
       → defined_of t d ≡ outcome (number Done) (defined t d)
   unfolding defined_of definition_answer
   outcome_done h e = rw (h, e)
@@ -45,9 +46,10 @@ module _ (t : List ℕ) (d : Definition) where
 pub record Accepted (t : List ℕ) (d : Definition) : Type 0 where
   pub name : (1 ≤ d.length) × (d.length ≤ name_limit)
   pub room : count_of t < attribute_limit
-  pub new : by_name t (name_of d) ≡ Nothing
+  pub new : by_name t (name_of d) ≡ None
 
-done_means : (limits new : Bool) → cond limits (cond new Done NameTwice) LimitPassed ≡ Done → (limits ≡ true) × (new ≡ true)
+done_means : (limits new : Bool) → cond limits (cond new Done (Refused NameTwice)) (Refused LimitPassed) ≡ Done
+    → (limits ≡ true) × (new ≡ true)
 done_means true true h = (refl, refl)
 done_means true false h = absurd (let z : ◌≡◌ {A = ℕ} 0 1 = cc in omega arith)
 done_means false new h = absurd (let z : ◌≡◌ {A = ℕ} 0 1 = cc in omega arith)
@@ -56,7 +58,7 @@ module _ (t : List ℕ) (d : Definition) where
   pub done_accepted : definition_answer t d ≡ Done → Accepted t d
   unfolding definition_answer
   done_accepted h =
-      let p = done_means (within_limits t d) (nowhere (by_name t (name_of d))) h in
+      let p = done_means (within_limits t d) (is_none (by_name t (name_of d))) h in
       record {
         name = between _ _ _ (and_left _ _ p.0);
         room = ltb-true _ _ (and_right _ _ p.0);

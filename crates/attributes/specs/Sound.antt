@@ -2,11 +2,12 @@
 -- past a name's length are not judged. Laws in `SoundLaws`.
 -- Assumes nothing.
 use Rattle.std.specs.Prelude.{◌≡◌, Bool, List, ℕ, ◌≤◌, ◌<◌, eqb, leb, length}
+use Rattle.std.specs.Option.{is_none}
 use Rattle.lists.specs.And.{◌and◌}
 use Rattle.lists.specs.Below.{all_below}
 use Rattle.attributes.specs.Kinds.{kind_count}
 use Rattle.attributes.specs.Table.{attribute_limit, name_limit, table_size, is_between}
-use Rattle.attributes.specs.Table.{count_of, kind_at, length_at, name_at, named, first_below, nowhere}
+use Rattle.attributes.specs.Table.{count_of, kind_at, length_at, name_at, named, first_below}
 
 pub record Sound (t : List ℕ) : Type 0 where
   pub size : length t ≡ table_size
@@ -19,7 +20,7 @@ pub record Sound (t : List ℕ) : Type 0 where
 unfoldable pub sound_attribute : List ℕ → ℕ → Bool
 sound_attribute t i =
     is_between 1 (kind_at t i) kind_count and is_between 1 (length_at t i) name_limit
-    and nowhere (first_below (named t (name_at t i)) i)
+    and is_none (first_below (named t (name_at t i)) i)
 
 unfoldable pub sound_table : List ℕ → Bool
 sound_table t =

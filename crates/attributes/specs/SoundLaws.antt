@@ -1,11 +1,14 @@
 -- Laws of sound tables.
 --     sound_iff                       the test `sound_table` holds exactly where the marks do
+--     sound_size, sound_few           its size, and how many attributes it may have
 --     sound_empty                     a table with no attributes is sound
 --     name_length                     a name in a sound table is as long as its record says
 --     by_name_iff                     an attribute is found by a name exactly where it has that name
 --     by_name_empty, by_name_long     an empty name and a long one are found nowhere
+--     by_name_within                  what is found is a place of the table
 -- Assumes nothing.
-use Rattle.std.specs.Prelude.{◌≡◌, true, ◌↔◌, List, [], ℕ, ◌≤◌, ◌<◌, length}
+use Rattle.std.specs.Prelude.{◌≡◌, true, ◌↔◌, List, [], ℕ, ◌≤◌, ◌<◌, length, Option, None, Some, IfSome}
+use Rattle.std.specs.Option.{is_none}
 use Rattle.std.proofs.Common.{sym, ap, ◌∙◌}
 use Rattle.std.proofs.Math.Bool.{true≢false}
 use native.Mathlib.Omega.{arith}
@@ -14,9 +17,9 @@ use Rattle.lists.specs.AndLaws.{and_left, and_right, and_both}
 use Rattle.lists.specs.BelowLaws.{below_each, below_all}
 use Rattle.bytes_equal.specs.BytesLaws.{bytes_same, bytes_differ}
 use Rattle.attributes.specs.declared.AttributeId.{AttributeId}
-use Rattle.attributes.specs.declared.Found.TheVariants.{At, Nothing}
 use Rattle.attributes.specs.Kinds.{kind_count}
-use Rattle.attributes.specs.Table.{name_limit, table_size, count_of, kind_at, length_at, name_at, named, first_below, by_name, nowhere}
+use Rattle.attributes.specs.Table.{attribute_limit, name_limit, table_size, count_of}
+use Rattle.attributes.specs.Table.{kind_at, length_at, name_at, named, first_below, by_name}
 use Rattle.attributes.specs.TableLaws.{between, is_between_lem, nowhere_nothing}
 use Rattle.attributes.specs.TableLaws.{first_nothing, first_fails, first_here, name_whole, by_name_named, by_name_none}
 use Rattle.attributes.specs.Sound.{Sound, sound_attribute, sound_table}
@@ -46,7 +49,7 @@ module _ (t : List ℕ) where
   unfolding sound_attribute
   at_sound i s =
       and_both _ _ (and_both _ _ (is_between_lem _ _ _ s.kind) (is_between_lem _ _ _ s.name))
-      (ap nowhere (first_fails (named t (name_at t i)) i (λ j l. bytes_differ (name_at t j) (name_at t i) (s.new j l))))
+      (ap is_none (first_fails (named t (name_at t i)) i (λ j l. bytes_differ (name_at t j) (name_at t i) (s.new j l))))
 
   -- names each of which differs from those before it all differ
   apart : ((i : ℕ) → i < count_of t → SoundAt i)
@@ -91,16 +94,23 @@ module _ (t : List ℕ) where
         names = λ i j k l e. absurd (omega arith);
       }
 
+  -- its size, and how many attributes it may have
+  pub sound_size : sound_table t ≡ true → length t ≡ table_size
+  sound_size h = (test_marks h).size
+
+  pub sound_few : sound_table t ≡ true → count_of t ≤ attribute_limit
+  sound_few h = (test_marks h).few
+
 -- ---- names in a sound table
 
 module _ (t : List ℕ) (s : Sound t) where
   pub name_length : (i : ℕ) → i < count_of t → length (name_at t i) ≡ length_at t i
   name_length i l = name_whole t i (omega (arith, (s.lengths i l).1, s.size, s.few))
 
-  pub by_name_iff : (n : List ℕ) (i : AttributeId) → (by_name t n ≡ At i) ↔ ((i.0 < count_of t) × (name_at t i.0 ≡ n))
+  pub by_name_iff : (n : List ℕ) (i : AttributeId) → (by_name t n ≡ Some i) ↔ ((i.0 < count_of t) × (name_at t i.0 ≡ n))
   by_name_iff n i = (by_name_named t n i, found)
     where
-      found : (i.0 < count_of t) × (name_at t i.0 ≡ n) → by_name t n ≡ At i
+      found : (i.0 < count_of t) × (name_at t i.0 ≡ n) → by_name t n ≡ Some i
       found h =
           let before : (j : ℕ) → j < i.0 → name_at t j ≡ n → ⊥ =
           λ j l e. let same : j ≡ i.0 = s.names j i.0 (omega (arith, h.0)) h.0 (e ∙ sym h.1) in omega arith in
@@ -108,8 +118,14 @@ module _ (t : List ℕ) (s : Sound t) where
           (first_fails (named t n) i.0 (λ j l. bytes_differ (name_at t j) n (before j l)))
           (bytes_same (name_at t i.0) n h.1)
 
-  pub by_name_empty : by_name t [] ≡ Nothing
+  pub by_name_empty : by_name t [] ≡ None
   by_name_empty = by_name_none t [] (λ i l e. omega (arith, name_length i l, ap length e, (s.lengths i l).0))
 
-  pub by_name_long : (n : List ℕ) → name_limit < length n → by_name t n ≡ Nothing
+  pub by_name_long : (n : List ℕ) → name_limit < length n → by_name t n ≡ None
   by_name_long n long = by_name_none t n (λ i l e. omega (arith, name_length i l, ap length e, (s.lengths i l).1))
+
+-- whatever is looked for, what is found is a place of the table
+pub by_name_within : (t n : List ℕ) → sound_table t ≡ true → (o : Option AttributeId) → o ≡ by_name t n
+    → IfSome o (λ id. id.0 < attribute_limit)
+by_name_within t n h (Some id) e = omega (arith, (by_name_named t n id (sym e)).0, sound_few t h)
+by_name_within t n h None e = tt

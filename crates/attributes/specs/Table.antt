@@ -1,11 +1,11 @@
 -- The attribute table, as it stands in bytes: the number of attributes, then 24 records of a kind, a name's length and 32 places for
 -- the name's bytes; and how an attribute is found by its name. Laws in `TableLaws`.
 -- Assumes nothing.
-use Rattle.std.specs.Prelude.{Bool, true, false, cond, List, ℕ, zero, suc, ◌+◌, ◌*◌, leb, get_or, take, drop}
+use Rattle.std.specs.Prelude.{Bool, cond, Option, None, Some, List, ℕ, zero, suc, ◌+◌, ◌*◌, leb, get_or, take, drop}
+use Rattle.std.specs.Option.{option_or}
 use Rattle.lists.specs.And.{◌and◌}
 use Rattle.bytes_equal.specs.Bytes.{same_bytes}
-use Rattle.attributes.specs.declared.Found.{Found}
-use Rattle.attributes.specs.declared.Found.TheVariants.{At, Nothing}
+use Rattle.attributes.specs.declared.AttributeId.{AttributeId}
 
 -- ---- the layout: the limits stand here, and every place is reckoned from them
 
@@ -49,19 +49,11 @@ name_at t i = take (length_at t i) (drop (record_at i + 2) t)
 abbrev pub named : List ℕ → List ℕ → ℕ → Bool
 named t n i = same_bytes (name_at t i) n
 
-abbrev pub or_else : Found → Found → Found
-or_else (At i) other = At i
-or_else Nothing other = other
-
 -- the first attribute below a number that passes a test
-unfoldable pub first_below : (ℕ → Bool) → ℕ → Found
-first_below f zero = Nothing
-first_below f (suc n) = or_else (first_below f n) (cond (f n) (At (record { 0 = n })) Nothing)
+unfoldable pub first_below : (ℕ → Bool) → ℕ → Option AttributeId
+first_below f zero = None
+first_below f (suc n) = option_or (first_below f n) (cond (f n) (Some (record { 0 = n })) None)
 
 -- the attribute of this name; where a damaged table has several, the first of them
-abbrev pub by_name : List ℕ → List ℕ → Found
+abbrev pub by_name : List ℕ → List ℕ → Option AttributeId
 by_name t n = first_below (named t n) (count_of t)
-
-abbrev pub nowhere : Found → Bool
-nowhere (At i) = false
-nowhere Nothing = true

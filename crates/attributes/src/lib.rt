@@ -2,13 +2,16 @@
 // part of a book's bytes, lent as a slice; specs/Table.antt says how it is laid out.
 #![tactic(auto)]
 
-ghost use Rattle.std.specs.Prelude.{◌≡◌, ◌+◌, ◌≤◌, ◌<◌, length, get_or};
+ghost use Rattle.std.specs.Prelude.{◌≡◌, false, true, ◌+◌, ◌≤◌, ◌<◌, length, MatchOption, IfSome};
 ghost use Rattle.std.proofs.lemmas.List.Edits.{sets};
-ghost use Rattle.attributes.specs.Kinds.{kind_number};
+ghost use Rattle.error.specs.Answers.{number, answered};
+ghost use Rattle.attributes.specs.Kinds.{kind_number, IsKindOf};
 ghost use Rattle.attributes.specs.Table.{attribute_limit, name_limit, table_size, record_at};
-ghost use Rattle.attributes.specs.Table.{is_between, count_of, kind_at, length_at, name_at, named, first_below, by_name};
+ghost use Rattle.attributes.specs.Table.{count_of, kind_at, length_at, name_at, named, first_below, by_name};
 ghost use Rattle.attributes.specs.Definitions.{padded, added, outcome, defined_of};
 ghost use Rattle.attributes.specs.Sound.{sound_attribute, sound_table};
+
+use error::Refusal;
 
 pub const ATTRIBUTE_LIMIT: usize = 24;
 
@@ -25,20 +28,49 @@ pub const TABLE_SIZE: usize = 1 + RECORD_SIZE * ATTRIBUTE_LIMIT;
 pub const KIND_COUNT: usize = 6;
 
 // An attribute by its number in the table. A type of its own, so that no word number can stand for it.
-#[derive(Clone, Copy)]
+#[derive(Clone, Copy, Debug, PartialEq, Eq)]
 pub struct AttributeId(pub usize);
 
-#[derive(Clone, Copy)]
+// The kinds, with the number of each in a table and in an event; 0 stands there for what is undefined.
+#[derive(Clone, Copy, Debug, PartialEq, Eq)]
 pub enum AttributeKind {
-    Boolean,
-    Integer,
-    Float,
-    String,
-    IntegerList,
-    StringList,
+    Boolean = 1,
+    Integer = 2,
+    Float = 3,
+    String = 4,
+    IntegerList = 5,
+    StringList = 6,
 }
 
-// One attribute to be defined: a name, of which the first `length` bytes count, and a kind.
+impl From<AttributeKind> for u8 {
+    ghost from_gives = { λ kind number. number ≡ kind_number kind };
+
+    fn from(kind: AttributeKind) -> u8 {
+        kind as u8
+    }
+}
+
+// The error is the number, which no kind has.
+impl TryFrom<u8> for AttributeKind {
+    type Error = u8;
+
+    ghost try_from_gives = { IsKindOf };
+
+    fn try_from(number: u8) -> Result<Self, u8> {
+        match number {
+            1 => Ok(AttributeKind::Boolean),
+            2 => Ok(AttributeKind::Integer),
+            3 => Ok(AttributeKind::Float),
+            4 => Ok(AttributeKind::String),
+            5 => Ok(AttributeKind::IntegerList),
+            6 => Ok(AttributeKind::StringList),
+            _ => Err(number),
+        }
+    }
+}
+
+// One attribute to be defined: a name, of which the first `length` bytes count, and a kind. The buffer with a length beside it is fixed
+// memory: a list of definitions is lent, and a name has no heap to stand in.
 #[derive(Clone, Copy)]
 pub struct Definition {
     pub name: [u8; NAME_LIMIT],
@@ -46,43 +78,56 @@ pub struct Definition {
     pub kind: AttributeKind,
 }
 
-// What looking for a name gives.
+// A table that has every mark of a sound one: lent, as a part of a book's bytes. `new` tests the bytes; who knows that they are sound makes it
+// of them with no test.
 #[derive(Clone, Copy)]
-pub enum Found {
-    At(AttributeId),
-    Nothing,
+pub struct AttributeTable<'a> {
+    pub bytes: &'a [u8],
+    pub ghost sound: { sound_table bytes.now ≡ true },
 }
 
-// The number that stands for a kind.
-pub fn kind_number(kind: AttributeKind) -> u8
-    ensures { result ≡ kind_number kind }
-{
-    match kind {
-        AttributeKind::Boolean => 1,
-        AttributeKind::Integer => 2,
-        AttributeKind::Float => 3,
-        AttributeKind::String => 4,
-        AttributeKind::IntegerList => 5,
-        AttributeKind::StringList => 6,
+impl<'a> AttributeTable<'a> {
+    // The table that stands in these bytes, if they are sound.
+    pub fn new(bytes: &'a [u8]) -> Option<AttributeTable<'a>>
+        ensures { MatchOption result (sound_table bytes.now ≡ false) (λ table. table.bytes.now ≡ bytes.now) }
+    {
+        if is_sound(bytes) {
+            Some(AttributeTable { bytes })
+        } else {
+            None
+        }
+    }
+
+    // The number of attributes.
+    #[tactic(auto, using(crate::specs::SoundLaws::sound_size, crate::specs::SoundLaws::sound_few))]
+    pub fn len(self) -> usize
+        ensures count { result ≡ count_of self.entry.bytes.now }
+        ensures few { result ≤ attribute_limit }
+    {
+        len(self.bytes)
+    }
+
+    // The number of an attribute's kind.
+    #[tactic(auto, using(crate::specs::SoundLaws::sound_size))]
+    pub fn by_id(self, id: AttributeId) -> u8
+        requires { id.0 < attribute_limit }
+        ensures { result ≡ kind_at self.entry.bytes.now id.0 }
+    {
+        by_id(self.bytes, id)
+    }
+
+    // The attribute of this name.
+    #[tactic(auto, using(crate::specs::SoundLaws::sound_size, crate::specs::SoundLaws::sound_few))]
+    pub fn by_name(self, name: &[u8]) -> Option<AttributeId>
+        ensures found { result ≡ by_name self.entry.bytes.now name.now }
+        ensures within { IfSome result (λ id. id.0 < attribute_limit) }
+    {
+        by_name(self.bytes, name)
     }
 }
 
-// A byte as a number.
-fn wide(byte: u8) -> usize
-    ensures { result ≡ byte }
-{
-    byte as usize
-}
-
-// Does the number lie from low to high?
-pub fn between(low: usize, number: usize, high: usize) -> bool
-    ensures { result ≡ is_between low number high }
-{
-    if number < low {
-        return false;
-    }
-    number <= high
-}
+// What follows takes a slice of a table's length: the public ones among it ask for no more, and a type of that length would ask for it
+// where a caller holds a slice.
 
 // Where the record of an attribute begins.
 fn record_at(i: usize) -> usize
@@ -97,7 +142,7 @@ pub fn len(table: &[u8]) -> usize
     requires { 0 < length table.now }
     ensures { result ≡ count_of table.now }
 {
-    wide(table[0])
+    usize::from(table[0])
 }
 
 // The number of an attribute's kind.
@@ -105,9 +150,7 @@ pub fn by_id(table: &[u8], id: AttributeId) -> u8
     requires { (length table.now ≡ table_size) × (id.0 < attribute_limit) }
     ensures { result ≡ kind_at table.now id.0 }
 {
-    let i = id.0;
-    let at = record_at(i);
-    table[at]
+    table[record_at(id.0)]
 }
 
 // The length of an attribute's name.
@@ -115,8 +158,7 @@ fn length_of(table: &[u8], i: usize) -> usize
     requires { (length table.now ≡ table_size) × (i < attribute_limit) }
     ensures { result ≡ length_at table.now i }
 {
-    let at = record_at(i);
-    wide(table[at + 1])
+    usize::from(table[record_at(i) + 1])
 }
 
 // The name of an attribute, as a part of the table. A damaged length reaches no further than the table does.
@@ -125,42 +167,29 @@ fn name_of(table: &[u8], i: usize) -> &[u8]
     ensures { result.now ≡ name_at table.now i }
 {
     let start = record_at(i) + 2;
-    let length = length_of(table, i);
-    if table.len() - start < length {
-        return &table[start..];
-    }
-    let end = start + length;
+    let end = table.len().min(start + length_of(table, i));
     &table[start..end]
 }
 
 // The first attribute below `count` that has this name.
-fn first_named(table: &[u8], name: &[u8], count: usize) -> Found
+fn first_named(table: &[u8], name: &[u8], count: usize) -> Option<AttributeId>
     requires { (length table.now ≡ table_size) × (count ≤ attribute_limit) }
     ensures { result ≡ first_below (named table.now name.now) count }
 {
-    let mut i = 0;
-    while i < count {
+    for i in 0..count {
         if bytes_equal::same_bytes(name_of(table, i), name) {
-            return Found::At(AttributeId(i));
+            return Some(AttributeId(i));
         }
-        i += 1;
     }
-    Found::Nothing
+    None
 }
 
 // The attribute of this name.
-pub fn by_name(table: &[u8], name: &[u8]) -> Found
+pub fn by_name(table: &[u8], name: &[u8]) -> Option<AttributeId>
     requires { (length table.now ≡ table_size) × (count_of table.now ≤ attribute_limit) }
     ensures { result ≡ by_name table.now name.now }
 {
     first_named(table, name, len(table))
-}
-
-// What stands at a place of a record's name: past the name's end, zero.
-fn name_byte(name: &[u8], k: usize) -> u8
-    ensures { result ≡ get_or name.now k 0 }
-{
-    if k < name.len() { name[k] } else { 0 }
 }
 
 // Writes a name to the places from `at` on, and zeros after it.
@@ -168,11 +197,9 @@ fn write_name(table: &mut [u8], at: usize, name: &[u8])
     requires { (at + name_limit ≤ length table.old) × (length name.now ≤ name_limit) }
     ensures { table.new ≡ sets table.old at (padded name.now) }
 {
-    let mut k = 0;
-    while k < NAME_LIMIT {
-        table[at + k] = name_byte(name, k);
-        k += 1;
-    }
+    let end = at + name.len();
+    table[at..end].copy_from_slice(name);
+    table[end..at + NAME_LIMIT].fill(0);
 }
 
 // Is the attribute sound, and its name new among those before it?
@@ -180,38 +207,19 @@ fn attribute_sound(table: &[u8], i: usize) -> bool
     requires { (length table.now ≡ table_size) × (i < attribute_limit) }
     ensures { result ≡ sound_attribute table.now i }
 {
-    let kind = by_id(table, AttributeId(i));
-    if !between(1, wide(kind), KIND_COUNT) {
-        return false;
-    }
-    if !between(1, length_of(table, i), NAME_LIMIT) {
-        return false;
-    }
-    match first_named(table, name_of(table, i), i) {
-        Found::At(_) => false,
-        Found::Nothing => true,
-    }
+    let kind = usize::from(by_id(table, AttributeId(i)));
+    (1..=KIND_COUNT).contains(&kind)
+        && (1..=NAME_LIMIT).contains(&length_of(table, i))
+        && first_named(table, name_of(table, i), i).is_none()
 }
 
 // Has the table every mark of a sound one?
 pub fn is_sound(table: &[u8]) -> bool
     ensures { result ≡ sound_table table.now }
 {
-    if table.len() != TABLE_SIZE {
-        return false;
-    }
-    let count = len(table);
-    if ATTRIBUTE_LIMIT < count {
-        return false;
-    }
-    let mut i = 0;
-    while i < count {
-        if !attribute_sound(table, i) {
-            return false;
-        }
-        i += 1;
-    }
-    true
+    table.len() == TABLE_SIZE
+        && len(table) <= ATTRIBUTE_LIMIT
+        && (0..len(table)).all(|i| attribute_sound(table, i))
 }
 
 // Counts one attribute more and writes its record.
@@ -219,9 +227,8 @@ fn write_record(table: &mut [u8], kind: u8, name: &[u8])
     requires { (length table.old ≡ table_size) × (count_of table.old < attribute_limit) × (length name.now ≤ name_limit) }
     ensures { table.new ≡ added table.old kind name.now }
 {
-    let count = len(table);
-    let at = record_at(count);
-    table[0] = (count + 1) as u8;
+    let at = record_at(len(table));
+    table[0] += 1;
     table[at] = kind;
     table[at + 1] = name.len() as u8;
     write_name(table, at + 2, name);
@@ -229,25 +236,21 @@ fn write_record(table: &mut [u8], kind: u8, name: &[u8])
 
 // Defines one attribute more, or refuses and changes nothing.
 #[tactic(auto, using(crate::proofs::NameLaws::full_refused))]
-pub fn define(table: &mut [u8], definition: Definition) -> u8
+pub fn define(table: &mut [u8], definition: Definition) -> Result<(), Refusal>
     requires { length table.old ≡ table_size }
-    ensures { outcome result table.new ≡ defined_of table.old definition }
+    ensures { outcome (number (answered result)) table.new ≡ defined_of table.old definition }
 {
     let length = definition.length;
-    if !between(1, length, NAME_LIMIT) {
-        return error::LIMIT_PASSED;
+    if !(1..=NAME_LIMIT).contains(&length) {
+        return Err(Refusal::LimitPassed);
     }
     if ATTRIBUTE_LIMIT <= len(table) {
-        return error::LIMIT_PASSED;
+        return Err(Refusal::LimitPassed);
     }
-    let whole = definition.name;
-    let name = &whole[..length];
-    match by_name(table, name) {
-        Found::At(_) => error::NAME_TWICE,
-        Found::Nothing => {
-            let kind = definition.kind;
-            write_record(table, kind_number(kind), name);
-            error::DONE
-        }
+    let name = &definition.name[..length];
+    if by_name(table, name).is_some() {
+        return Err(Refusal::NameTwice);
     }
+    write_record(table, u8::from(definition.kind), name);
+    Ok(())
 }

@@ -2,6 +2,10 @@
 use Rattle.std.specs.Prelude.{◌≡◌, refl, Bool, true, false, ℕ}
 use Rattle.std.proofs.Common.{ap}
 use mathlib.Core.List.{List}
+use Rattle.std.proofs.lemmas.Bool.Decides.{same_from_decides, Decides-eqb}
+use Rattle.std.proofs.lemmas.Slice.Eq.{slice_eq-Decides}
+use Rattle.std.specs.Cmp.Lexicographic.{pointwise}
+use Rattle.std.proofs.Common.{eqb}
 use borrow.Author.Tests.{eqb-true, eq-eqb}
 use Rattle.std.proofs.Math.ListN.{length, get_or}
 use Rattle.std.proofs.Math.Seq.{ext_get_or}
@@ -28,3 +32,7 @@ module _ (m n : List ℕ) where
       go : (b : Bool) → same_bytes m n ≡ b → b ≡ false
       go true h = absurd (f (same_bytes_lem h))
       go false h = refl
+
+  -- and so does `==` of two slices
+  pub slices_same : (r : Bool) → r ≡ pointwise eqb m n → r ≡ same_bytes m n
+  slices_same r e = same_from_decides r (same_bytes m n) (slice_eq-Decides Decides-eqb m n r e) (same_bytes_lem, bytes_same)

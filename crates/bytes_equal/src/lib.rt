@@ -5,19 +5,9 @@ ghost use Rattle.std.specs.Prelude.{◌≡◌};
 ghost use Rattle.bytes_equal.specs.Bytes.{same_bytes};
 
 // Are they the same bytes?
+#[tactic(auto, using(crate::specs::BytesLaws::slices_same))]
 pub fn same_bytes(left: &[u8], right: &[u8]) -> bool
     ensures { result ≡ same_bytes left.now right.now }
 {
-    let n = left.len();
-    if n != right.len() {
-        return false;
-    }
-    let mut k = 0;
-    while k < n {
-        if left[k] != right[k] {
-            return false;
-        }
-        k += 1;
-    }
-    true
+    left == right
 }

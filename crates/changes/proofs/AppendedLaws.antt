@@ -1,5 +1,6 @@
 -- ONE PART MORE, of either kind: its run is written at the end of its table, then its record, then the counts. The parts are the old ones
 -- and the new one, the marks hold again, and every other table reads as it did.
+--     placed_fits                        a record with its run
 --     New                                what must be known of the run and the record
 --     appended                           what follows
 --     record_new, place_run, element_run     what the last part's record and runs are read as
@@ -31,8 +32,24 @@ use Rattle.store.proofs.RecordLaws.{record_only, only_put_record, record_back}
 use Rattle.store.proofs.RunsLaws.{part_same, sum_ext, join_same, join_end, predicate_end}
 use Rattle.store.proofs.RunsLaws.{places_join, places_predicate, elements_join, elements_predicate}
 use Rattle.store.proofs.KeptLaws.{laid_kept, attributes_kept, rules_kept, entries_kept}
-use Rattle.changes.specs.Changes.{closed}
+use Rattle.changes.specs.Changes.{placed, closed}
 use Rattle.changes.specs.Effects.{Appended}
+
+-- a record with its run fits as it did
+pub placed_fits : {r : Record} {n at : ℕ} → RecordFits r → n ≤ 65535 → at ≤ 65535 → RecordFits (placed r n at)
+placed_fits f h k =
+    record {
+      kind = f.kind;
+      attribute = f.attribute;
+      tag = f.tag;
+      scale = f.scale;
+      level = f.level;
+      size = f.size;
+      length = omega arith;
+      start = omega arith;
+      cost = f.cost;
+      number = f.number;
+    }
 
 module _ (limits : Limits) (b : List ℕ) (l : Laid limits b) (s : Runs limits b) (room : part_count b < limits.parts) where
   abbrev n : ℕ

@@ -22,7 +22,7 @@ use Rattle.store.specs.Runs.{Blank, Runs}
 use Rattle.store.proofs.RunsLaws.{part_is}
 use Rattle.changes.specs.Changes.{placed, put_children, closed, append_join}
 use Rattle.changes.specs.Effects.{Room, Low, Appended}
-use Rattle.changes.proofs.AppendedLaws.{New, appended, record_new, place_run}
+use Rattle.changes.proofs.AppendedLaws.{placed_fits, New, appended, record_new, place_run}
 
 module _ (limits : Limits) (b : List ℕ) (s : Runs limits b) (r : Record) (f : RecordFits r) (children : List ℕ)
     (room : Room limits b (length children) 0) (t : is_join r ≡ true) (blank : Blank r) (low : Low children (part_count b)) where
@@ -50,19 +50,7 @@ module _ (limits : Limits) (b : List ℕ) (s : Runs limits b) (r : Record) (f : 
         only = only_wide (omega arith) (omega (arith, room.places)) reach;
         places_low = λ k u. word_only reach 2 (places_at limits + 2 * k) (inl (omega arith));
         elements_low = λ k u. signed_only reach (elements_at limits + 8 * k) (inr (omega (arith, room.places)));
-        fits =
-            record {
-              kind = f.kind;
-              attribute = f.attribute;
-              tag = f.tag;
-              scale = f.scale;
-              level = f.level;
-              size = f.size;
-              length = omega (arith, room.places, room.laid.within.places);
-              start = omega (arith, room.places, room.laid.within.places);
-              cost = f.cost;
-              number = f.number;
-            };
+        fits = placed_fits f (omega (arith, room.places, room.laid.within.places)) (omega (arith, room.places, room.laid.within.places));
         places_most = room.places;
         elements_most = s.counted.elements;
         join = λ h. (refl, refl, refl);

@@ -36,13 +36,14 @@ module _ {A : Type 0} (read : List ℕ → ℕ → A) (write : List ℕ → ℕ 
   unfolding lowered
   lowered_suc d k n = refl
 
-  pub raise_more : (k left : ℕ) {d e w : List ℕ} {x : A} → 0 < left → raised read write d k left ≡ w
-      → x ≡ read d (k + (left - 1)) → e ≡ write d (k + (left - 1) + 1) x → raised read write e k (left - 1) ≡ w
-  raise_more k left {d} {e} h whole ex ee =
-      let n = left - 1 in
-      let s : k + n + 1 ≡ k + suc n = omega arith in
-      let l : suc n ≡ left = omega arith in
-      let f : e ≡ write d (k + suc n) (read d (k + n)) = ee ∙ rw (ex, s) in
+  pub raise_more : (k m : ℕ) {d e w : List ℕ} {x : A} → k < m → raised read write d k (m - k) ≡ w
+      → x ≡ read d (m - 1) → e ≡ write d (m - 1 + 1) x → raised read write e k (m - 1 - k) ≡ w
+  raise_more k m {d} {e} h whole ex ee =
+      let n = m - 1 - k in
+      let s : m - 1 ≡ k + n = omega arith in
+      let t : m - 1 + 1 ≡ k + suc n = omega arith in
+      let l : suc n ≡ m - k = omega arith in
+      let f : e ≡ write d (k + suc n) (read d (k + n)) = cc in
       ap (λ (y : List ℕ). raised read write y k n) f ∙ raised_suc d k n ∙ ap (raised read write d k) l ∙ whole
 
   pub lower_more : (k m : ℕ) {d e w : List ℕ} {x : A} → k + 1 < m → lowered read write d k (m - (k + 1)) ≡ w
@@ -58,9 +59,9 @@ module _ {A : Type 0} (read : List ℕ → ℕ → A) (write : List ℕ → ℕ 
       ∙ ap (lowered read write d k) l
       ∙ whole
 
-  pub raise_end : (k left : ℕ) {d w : List ℕ} → left ≡ 0 → raised read write d k left ≡ w → d ≡ w
+  pub raise_end : (k m : ℕ) {d w : List ℕ} → m ≤ k → raised read write d k (m - k) ≡ w → d ≡ w
   unfolding raised
-  raise_end k left e whole = rw e at whole
+  raise_end k m h whole = let e : m - k ≡ 0 = omega arith in rw e at whole
 
   pub lower_end : (k m : ℕ) {d w : List ℕ} → m ≤ k + 1 → lowered read write d k (m - (k + 1)) ≡ w → d ≡ w
   unfolding lowered

@@ -27,7 +27,7 @@ use Rattle.store.specs.Runs.{Runs}
 use Rattle.store.proofs.RunsLaws.{part_is}
 use Rattle.changes.specs.Changes.{placed, put_elements, closed, append_predicate}
 use Rattle.changes.specs.Effects.{Room, Whole, Appended}
-use Rattle.changes.proofs.AppendedLaws.{New, appended, record_new, element_run}
+use Rattle.changes.proofs.AppendedLaws.{placed_fits, New, appended, record_new, element_run}
 
 module _ (limits : Limits) (b : List ℕ) (s : Runs limits b) (r : Record) (f : RecordFits r) (list : List ℤ)
     (room : Room limits b 0 (length list)) (t : is_join r ≡ false) (fit : Whole list (length list)) where
@@ -62,18 +62,7 @@ module _ (limits : Limits) (b : List ℕ) (s : Runs limits b) (r : Record) (f : 
         places_low = λ k u. word_only reach 2 (places_at limits + 2 * k) (inl (omega (arith, s.counted.places)));
         elements_low = λ k u. signed_only reach (elements_at limits + 8 * k) (inl (omega arith));
         fits =
-            record {
-              kind = f.kind;
-              attribute = f.attribute;
-              tag = f.tag;
-              scale = f.scale;
-              level = f.level;
-              size = f.size;
-              length = omega (arith, room.elements, room.laid.within.elements);
-              start = omega (arith, room.elements, room.laid.within.elements);
-              cost = f.cost;
-              number = f.number;
-            };
+            placed_fits f (omega (arith, room.elements, room.laid.within.elements)) (omega (arith, room.elements, room.laid.within.elements));
         places_most = s.counted.places;
         elements_most = room.elements;
         join = λ h. absurd (true≢false (sym h ∙ t));

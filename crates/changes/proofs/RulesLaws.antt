@@ -1,8 +1,8 @@
 -- WHAT A CHANGE OF THE RULES DOES TO THE BOOK: the rules are the old ones with one put in, with one taken away, or with their roots
 -- renumbered, and nothing else changes.
 --     rule_put_in, rule_taken_out, roots_renumbered
---     rule_unread, renumber_more         one root more, as a loop renumbers it
---     place_exact                        a live id is found at its place
+--     root_below, renumber_more          one root more, as a loop renumbers it
+--     parted_place, place_exact          where an id is to stand; a live id is found at its place
 -- Assumes nothing.
 use mathlib.Core.Path.{◌≡◌, refl, sym, ap, ◌∙◌}
 use mathlib.Core.List.{List, map}
@@ -14,6 +14,9 @@ use native.Mathlib.Omega.{arith}
 use lib.ListN.{length, get_or}
 use Rattle.lists.specs.Tabulate.{tabulate}
 use Rattle.lists.proofs.TabulateLaws.{tabulate_ext, tabulate_remove, map_tabulate}
+use Rattle.std.specs.declared.cmp.Ordering.{Ordering}
+use Rattle.std.specs.declared.cmp.Ordering.TheVariants.{Less, Greater}
+use Rattle.lists.specs.Searching.{Parted}
 use Rattle.words.specs.Word.{put}
 use Rattle.words.specs.Frame.{Only, Bytes}
 use Rattle.words.proofs.WordLaws.{word_back}
@@ -29,7 +32,7 @@ use Rattle.store.proofs.KeptLaws.{laid_kept, attributes_kept, entries_kept, part
 use Rattle.changes.specs.Moving.{raised, lowered}
 use Rattle.changes.specs.Placing.{inserted_at, removed_at}
 use Rattle.changes.specs.Changes.{insert_rule, remove_rule, rerooted, renumber_roots}
-use Rattle.changes.specs.Effects.{Ruled, AscendingIds, RulePlace}
+use Rattle.changes.specs.Effects.{Ruled, AscendingIds, RulePlace, RootsBelow}
 use Rattle.changes.proofs.PlacingLaws.{tabulate_insert}
 use Rattle.changes.proofs.MovingLaws.{raised_only, raised_up, raised_bytes, lowered_only, lowered_down, lowered_bytes}
 use Rattle.changes.proofs.TablesLaws.{RuleFits, rule_spot, rule_table}
@@ -187,8 +190,12 @@ module _ (b news : List ℕ) where
       (rule_table.reach (renumber_roots b news n) n (rerooted (rule_at b n) (get_or news (rule_at b n).root 0)))
 
   -- the next rule has not been written over
-  pub rule_unread : (n : ℕ) {d : List ℕ} {r : Rule} → d ≡ renumber_roots b news n → r ≡ rule_at d n → r ≡ rule_at b n
+  rule_unread : (n : ℕ) {d : List ℕ} {r : Rule} → d ≡ renumber_roots b news n → r ≡ rule_at d n → r ≡ rule_at b n
   rule_unread n ed er = er ∙ ap (λ (x : List ℕ). rule_at x n) ed ∙ rule_table.apart (renumbered_only n) n (inr (omega arith))
+
+  pub root_below : {n i : ℕ} {d : List ℕ} {r : Rule} → RootsBelow b n → d ≡ renumber_roots b news i → r ≡ rule_at d i
+      → i < rule_count b → r.root < n
+  root_below {n} {i} below ed er h = omega (arith, below i h, ap (λ (x : Rule). x.root) (rule_unread i ed er))
 
   -- one root more, as a loop renumbers it
   pub renumber_more : (n root : ℕ) {d e : List ℕ} {r : Rule} → d ≡ renumber_roots b news n → r ≡ rule_at d n
@@ -238,7 +245,29 @@ module _ (b news : List ℕ) where
         ∙ sym (map_tabulate (λ (r : ℕ × ℕ). (r.0, get_or news r.1 0)) n (pair_at b)) in
         table_ruled limits b d l s table rules (renumbered_bytes n)
 
--- ---- a live id stands at its place
+-- ---- the place of an id, and a live id stands at its place
+
+-- the place that a search by halving left is the id's
+pub parted_place : {says : ℕ → Ordering → Type 0} (b : List ℕ) (id p : ℕ) → AscendingIds b
+    → ((k : ℕ) → says k Less → (rule_at b k).id < id) → ((k : ℕ) → says k Greater → id < (rule_at b k).id)
+    → Parted says (rule_count b) p → RulePlace b id p
+parted_place b id p up under over parted =
+    record {
+      most = parted.bound;
+      before = λ i u.
+          let last : p - 1 + 1 ≡ p = omega arith in
+          let below : (rule_at b (p - 1)).id < id = under (p - 1) (parted.less (p - 1) last) in
+          elim (ℕ_discrete i (p - 1)) [
+            | yes e ↦ rw e below
+            | no ne ↦ omega (arith, below, up i (p - 1) (omega (arith, ne)) (omega (arith, parted.bound)))
+          ];
+      after = λ i u l.
+          let above : id < (rule_at b p).id = over p (parted.greater (omega arith)) in
+          elim (ℕ_discrete p i) [
+            | yes e ↦ omega (arith, rw e at above)
+            | no ne ↦ omega (arith, above, up p i (omega (arith, ne)) l)
+          ];
+    }
 
 pub place_exact : (b : List ℕ) (id k : ℕ) → AscendingIds b → RulePlace b id k → (i : ℕ) → i < rule_count b → (rule_at b i).id ≡ id → i ≡ k
 place_exact b id k up p i l e =

@@ -44,6 +44,10 @@ put_elements limits b at list n = wrote 8 b (λ k. elements_at limits + 8 * (at 
 abbrev pub closed : Limits → List ℕ → ℕ → Record → ℕ → ℕ → List ℕ
 closed limits b i r p e = put 4 (put 4 (put 4 (put_record limits b i r) part_count_at (i + 1)) place_count_at p) element_count_at e
 
+-- one part more, of record r, with p places and e elements more in use
+abbrev pub part_more : Limits → List ℕ → Record → ℕ → ℕ → List ℕ
+part_more limits b r p e = closed limits b (part_count b) r (place_count b + p) (element_count b + e)
+
 unfoldable pub append_join : Limits → List ℕ → Record → List ℕ → List ℕ
 append_join limits b r children =
     closed limits (put_children limits b (place_count b) children (length children)) (part_count b)

@@ -9,17 +9,16 @@ use lib.IntN.{ℤ, pos, negsuc, neg_ℤ, nat_abs, ◌*ℤ◌}
 use lib.Signed.{quot_z, rem_z, nat_abs-le}
 use mir.Syntax.{w64}
 use mir.Val.{SFits}
-use Rattle.decimals.specs.declared.Order.{Order}
-use Rattle.decimals.specs.declared.Order.TheVariants.{Less, Equal, Greater}
-use Rattle.decimals.specs.Order.{order_z, turned_of, then_of}
+use Rattle.std.specs.declared.cmp.Ordering.{Ordering}
+use Rattle.std.specs.declared.cmp.Ordering.TheVariants.{Less, Equal, Greater}
+use Rattle.std.specs.Ordering.{nat_cmp, int_cmp, ordering_reverse, ordering_then}
+use Rattle.std.proofs.lemmas.Cmp.{nat_cmp_total}
 use Rattle.decimals.proofs.OrderLaws.{
   one_of_three,
-  order_n,
   order_n_less,
   order_n_greater,
   order_n_equal,
   order_n_alike,
-  order_n_turned,
   order_pos,
   order_neg,
   order_below,
@@ -28,7 +27,7 @@ use Rattle.decimals.proofs.OrderLaws.{
 use Rattle.decimals.proofs.ScaleLaws.{times_below}
 
 -- natural numbers
-divided_n : (t p q : ℕ) → 0 < t → order_n (p * t) q ≡ then_of (order_n p (q / t)) (order_n 0 (q % t))
+divided_n : (t p q : ℕ) → 0 < t → nat_cmp (p * t) q ≡ ordering_then (nat_cmp p (q / t)) (nat_cmp 0 (q % t))
 divided_n t p q h =
     let d : q / t * t + q % t ≡ q = div-add-mod' q t in
     one_of_three p (q / t)
@@ -43,34 +42,34 @@ divided_n t p q h =
     (order_n_alike (p * t) q 0 (q % t) (λ l. omega arith) (λ g. omega arith) (λ k. omega arith)))
 
 -- two keys, the other way round
-then_turned : (o p : Order) → turned_of (then_of o p) ≡ then_of (turned_of o) (turned_of p)
+then_turned : (o p : Ordering) → ordering_reverse (ordering_then o p) ≡ ordering_then (ordering_reverse o) (ordering_reverse p)
 then_turned Less p = refl
 then_turned Equal p = refl
 then_turned Greater p = refl
 
 -- what is not negative is above what is, by the quotient or else by the remainder
-above : (t n m k r : ℕ) → k * t + r ≡ suc n → then_of (order_z (pos m) (neg_ℤ (pos k))) (order_z (pos 0) (neg_ℤ (pos r))) ≡ Greater
-above t n m (suc k) r e = rw (order_above m k)
+above : (t n m k r : ℕ) → k * t + r ≡ suc n → ordering_then (int_cmp (pos m) (neg_ℤ (pos k))) (int_cmp (pos 0) (neg_ℤ (pos r))) ≡ Greater
+above t n m (suc k) r e = refl
 above t n (suc m) zero r e = rw (order_pos (suc m) 0, order_n_greater (suc m) 0 (omega arith))
 above t n zero zero zero e = absurd (omega arith)
-above t n zero zero (suc r) e = rw (order_pos 0 0, order_n_equal 0 0 refl) (order_above 0 r)
+above t n zero zero (suc r) e = refl
 
 -- integers
 module _ (t : ℕ) (h : 0 < t) where
-  pub divided : (a b : ℤ) → order_z (a *ℤ pos t) b ≡ then_of (order_z a (quot_z b (pos t))) (order_z (pos 0) (rem_z b (pos t)))
+  pub divided : (a b : ℤ) → int_cmp (a *ℤ pos t) b ≡ ordering_then (int_cmp a (quot_z b (pos t))) (int_cmp (pos 0) (rem_z b (pos t)))
   divided (pos m) (pos n) =
-      order_pos (m * t) n ∙ divided_n t m n h ∙ ap₂ then_of (sym (order_pos m (n / t))) (sym (order_pos 0 (n % t)))
+      order_pos (m * t) n ∙ divided_n t m n h ∙ ap₂ ordering_then (sym (order_pos m (n / t))) (sym (order_pos 0 (n % t)))
   divided (negsuc m) (pos n) = rw (order_below m (n / t)) (times_below m t n h)
   divided (pos m) (negsuc n) =
       order_above (m * t) n ∙ sym (above t n m (suc n / t) (suc n % t) (div-add-mod' (suc n) t))
   divided (negsuc m) (negsuc n) =
       order_neg (suc m * t) (suc n)
-      ∙ order_n_turned (suc m * t) (suc n)
-      ∙ ap turned_of (divided_n t (suc m) (suc n) h)
-      ∙ then_turned (order_n (suc m) (suc n / t)) (order_n 0 (suc n % t))
-      ∙ ap₂ then_of
-      (sym (order_n_turned (suc m) (suc n / t)) ∙ sym (order_neg (suc m) (suc n / t)))
-      (sym (order_n_turned 0 (suc n % t)) ∙ sym (order_neg 0 (suc n % t)))
+      ∙ (nat_cmp_total).antisymm (suc n) (suc m * t)
+      ∙ ap ordering_reverse (divided_n t (suc m) (suc n) h)
+      ∙ then_turned (nat_cmp (suc m) (suc n / t)) (nat_cmp 0 (suc n % t))
+      ∙ ap₂ ordering_then
+      (sym ((nat_cmp_total).antisymm (suc n / t) (suc m)) ∙ sym (order_neg (suc m) (suc n / t)))
+      (sym ((nat_cmp_total).antisymm (suc n % t) 0) ∙ sym (order_neg 0 (suc n % t)))
 
 -- where b is less than t, the quotient is 0 and the remainder b
 module _ (t : ℕ) where
@@ -83,7 +82,7 @@ module _ (t : ℕ) where
   small_rem (negsuc n) h = ap (λ (k : ℕ). neg_ℤ (pos k)) (mod-eq_of_lt h)
 
 -- a power of ten past those that 64 bits hold
-pub far : (a b : ℤ) (k : ℕ) → SFits w64 b → 18 < k → order_z (a *ℤ pos (10 ^ k)) b ≡ then_of (order_z a (pos 0)) (order_z (pos 0) b)
+pub far : (a b : ℤ) (k : ℕ) → SFits w64 b → 18 < k → int_cmp (a *ℤ pos (10 ^ k)) b ≡ ordering_then (int_cmp a (pos 0)) (int_cmp (pos 0) b)
 far a b k s h =
     let m : nat_abs b ≤ 2 ^ 63 = nat_abs-le b s.sfits in
     let p : 10 ^ 19 ≤ 10 ^ k = pow-le-pow_right (omega arith) h in

@@ -1,4 +1,4 @@
--- The laws behind the contracts' proofs. Other crates cite OrderLaws, NormalLaws and Trials.
+-- The laws behind the contracts' proofs. Other crates cite ScaleLaws and NormalLaws.
 pub mod OrderLaws
 pub mod ScaleLaws
 pub mod DivisionLaws

@@ -10,11 +10,11 @@ use native.Mathlib.Omega.{arith}
 use borrow.Author.Tests.{eq-eqb, ne_eqb}
 use lib.IntN.{ℤ, pos, nat_abs, ◌*ℤ◌}
 use Rattle.decimals.specs.declared.Decimal.{Decimal}
-use Rattle.decimals.specs.declared.Order.TheVariants.{Equal}
-use Rattle.decimals.specs.Order.{order_z}
+use Rattle.std.specs.declared.cmp.Ordering.TheVariants.{Equal}
+use Rattle.std.specs.Ordering.{int_cmp}
 use Rattle.decimals.specs.Decimals.{scale_limit, units, compare_of}
 use Rattle.decimals.specs.Normal.{ends_in_zero, shortened, normal_of, Normal, is_normal}
-use Rattle.decimals.proofs.OrderLaws.{impossible, one_of_three, order_equal_iff}
+use Rattle.decimals.proofs.OrderLaws.{one_of_three, order_equal_iff}
 use Rattle.decimals.proofs.ScaleLaws.{times_abs, same_scale, lesser_scale}
 use Rattle.decimals.proofs.ShorteningLaws.{decimal, normal_stop, shortened_is}
 
@@ -65,7 +65,7 @@ apart d e l h t u =
     = (order_equal_iff _ _).0 (lesser_scale d e (omega arith) h ∙ (compare_equal_iff d e).1 u) in
     let z : ends_in_zero e.number ≡ true = rw raised at (zeros d.number (e.scale - d.scale) (omega arith)) in
     let f : false ≡ true = rw (ne_eqb e.scale 0 (λ s. omega arith), z) at t in
-    impossible (cc)
+    absurd (cc)
 
 unique : (d e : Decimal) → d.scale ≤ scale_limit → e.scale ≤ scale_limit → is_normal d ≡ true → is_normal e ≡ true
     → units d ≡ units e → d ≡ e
@@ -89,9 +89,9 @@ module _ (d e : Decimal) (hd : d.scale ≤ scale_limit) (he : e.scale ≤ scale_
 -- a normal form compares as the decimal does
 pub compare_normal_right : (d e : Decimal) → e.scale ≤ scale_limit → compare_of d (normal_of e) ≡ compare_of d e
 unfolding compare_of
-compare_normal_right d e h = ap (order_z (units d)) (normal_units e h)
+compare_normal_right d e h = ap (int_cmp (units d)) (normal_units e h)
 
 pub compare_normal : (d e : Decimal) → d.scale ≤ scale_limit → e.scale ≤ scale_limit
     → compare_of (normal_of d) (normal_of e) ≡ compare_of d e
 unfolding compare_of
-compare_normal d e hd he = ap₂ order_z (normal_units d hd) (normal_units e he)
+compare_normal d e hd he = ap₂ int_cmp (normal_units d hd) (normal_units e he)

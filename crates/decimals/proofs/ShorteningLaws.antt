@@ -12,7 +12,6 @@ use lib.Signed.{quot_z}
 use Rattle.decimals.specs.declared.Decimal.{Decimal}
 use Rattle.decimals.specs.Decimals.{scale_limit, units}
 use Rattle.decimals.specs.Normal.{ends_in_zero, shortened, normal_of, is_normal}
-use Rattle.decimals.proofs.OrderLaws.{impossible}
 use Rattle.decimals.proofs.ScaleLaws.{neg_times, times_times}
 
 -- the decimal of a number and a scale
@@ -34,7 +33,7 @@ module _ (d : Decimal) where
   normal_step = go d.number d.scale
     where
       go : (x : ℤ) (y : ℕ) → is_normal (decimal x y) ≡ false → (0 < y) × (shortened x y ≡ shortened (quot_z x (pos 10)) (y - 1))
-      go x zero e = impossible (cc)
+      go x zero e = absurd (cc)
       go x (suc y) e =
           let s : suc y - 1 ≡ y = omega arith in
           (omega arith, rw (not-false (ends_in_zero x) (rw (eqb-suc-zero y) at e), s))

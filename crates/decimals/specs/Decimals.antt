@@ -3,8 +3,8 @@
 -- Assumes nothing.
 use Rattle.std.specs.Prelude.{ℕ, ◌-◌, ◌^◌, ℤ, pos, ◌*ℤ◌}
 use Rattle.decimals.specs.declared.Decimal.{Decimal}
-use Rattle.decimals.specs.declared.Order.{Order}
-use Rattle.decimals.specs.Order.{order_z}
+use Rattle.std.specs.declared.cmp.Ordering.{Ordering}
+use Rattle.std.specs.Ordering.{int_cmp}
 
 -- scales are 0 to 28
 abbrev pub scale_limit : ℕ
@@ -14,5 +14,5 @@ scale_limit = 28
 unfoldable pub units : Decimal → ℤ
 units d = d.number *ℤ pos (10 ^ (scale_limit - d.scale))
 
-unfoldable pub compare_of : Decimal → Decimal → Order
-compare_of left right = order_z (units left) (units right)
+unfoldable pub compare_of : Decimal → Decimal → Ordering
+compare_of left right = int_cmp (units left) (units right)

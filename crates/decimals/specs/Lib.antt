@@ -1,4 +1,3 @@
 -- The definitions that the contracts cite, in the order to read them.
-pub mod Order
 pub mod Decimals
 pub mod Normal

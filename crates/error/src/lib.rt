@@ -1,31 +1,74 @@
-// The numbers that a call can answer, by name: what error.rs is in the Rust. Each number stands here and nowhere else in the code;
-// specs/Answers.antt says when each is given.
+// The refusals of a call, by name: what error.rs is in the Rust. Each has the number of its row in the table of answers, and that number
+// stands here and nowhere else in the code; specs/Answers.antt says when each is given.
 #![tactic(auto)]
 
-pub const DONE: u8 = 0;
+ghost use Rattle.std.specs.Prelude.{◌≡◌};
+ghost use Rattle.error.specs.Answers.{Refused, number, answered};
 
-pub const SHEET_MALFORMED: u8 = 1;
+use std::error::Error;
+use std::fmt;
 
-pub const LIMIT_PASSED: u8 = 2;
+#[derive(Clone, Copy, Debug, PartialEq, Eq)]
+pub enum Refusal {
+    SheetMalformed,
+    LimitPassed,
+    NameTwice,
+    NoAttribute,
+    OtherKind,
+    NotSuited,
+    IdLive,
+    IdNotLive,
+    NoRoom,
+    BookDamaged,
+    BufferShort,
+    EventUnsuited,
+}
 
-pub const NAME_TWICE: u8 = 3;
+impl Refusal {
+    pub fn number(self) -> u8
+        ensures { result ≡ number (Refused self) }
+    {
+        match self {
+            Refusal::SheetMalformed => 1,
+            Refusal::LimitPassed => 2,
+            Refusal::NameTwice => 3,
+            Refusal::NoAttribute => 4,
+            Refusal::OtherKind => 5,
+            Refusal::NotSuited => 6,
+            Refusal::IdLive => 7,
+            Refusal::IdNotLive => 8,
+            Refusal::NoRoom => 9,
+            Refusal::BookDamaged => 10,
+            Refusal::BufferShort => 11,
+            Refusal::EventUnsuited => 12,
+        }
+    }
+}
 
-pub const NO_ATTRIBUTE: u8 = 4;
+impl fmt::Display for Refusal {
+    fn fmt<W: fmt::Write>(&self, f: &mut fmt::Formatter<W>) -> fmt::Result {
+        f.write_str(match self {
+            Refusal::SheetMalformed => "the numbers handed in are no rule sheet",
+            Refusal::LimitPassed => "a limit is passed",
+            Refusal::NameTwice => "an attribute's name is defined twice",
+            Refusal::NoAttribute => "there is no such attribute",
+            Refusal::OtherKind => "an event's value is of another kind",
+            Refusal::NotSuited => "a predicate does not suit its attribute's kind",
+            Refusal::IdLive => "the rule id is live already",
+            Refusal::IdNotLive => "the rule id to delete is not live",
+            Refusal::NoRoom => "a room count would pass its limit",
+            Refusal::BookDamaged => "the book lacks a mark of a sound one",
+            Refusal::BufferShort => "the report buffer is shorter than the number of live rules",
+            Refusal::EventUnsuited => "the event does not suit the book",
+        })
+    }
+}
 
-pub const OTHER_KIND: u8 = 5;
+impl Error for Refusal {}
 
-pub const NOT_SUITED: u8 = 6;
-
-pub const ID_LIVE: u8 = 7;
-
-pub const ID_NOT_LIVE: u8 = 8;
-
-pub const NO_ROOM: u8 = 9;
-
-pub const BOOK_DAMAGED: u8 = 10;
-
-pub const BUFFER_SHORT: u8 = 11;
-
-pub const EVENT_UNSUITED: u8 = 12;
-
-pub const NOT_SET: u8 = 40;
+// The number that stands in the table for what a call gave: 0 where nothing was refused.
+pub fn number(given: Result<(), Refusal>) -> u8
+    ensures { result ≡ number (answered given) }
+{
+    given.map_or_else(|refusal| refusal.number(), |_| 0)
+}

@@ -1,10 +1,10 @@
 -- The result bytes of a search, one for each part: two bits for the answer and a mark that there is one.
 -- Assumes nothing.
 use Rattle.std.specs.Prelude.{Bool, cond, ℕ, ◌+◌, ◌/◌, ◌%◌, eqb}
+use Rattle.std.specs.declared.option.Option.{Option}
+use Rattle.std.specs.declared.option.Option.TheVariants.{None, Some}
 use Rattle.evaluation.specs.declared.Truth.{Truth}
 use Rattle.evaluation.specs.declared.Truth.TheVariants.{False, Undefined, True}
-use Rattle.evaluation.specs.declared.Outcome.{Outcome}
-use Rattle.evaluation.specs.declared.Outcome.TheVariants.{Unvalued, Valued}
 
 -- the bits: 1 failed, 2 success, 4 evaluated
 abbrev pub failed : ℕ → Bool
@@ -30,5 +30,5 @@ abbrev pub answer_of : ℕ → Truth
 answer_of byte = cond (failed byte) False (cond (success byte) True Undefined)
 
 -- what any byte says of its part: no answer without the mark
-unfoldable pub outcome_of : ℕ → Outcome
-outcome_of byte = cond (evaluated byte) (Valued (answer_of byte)) Unvalued
+unfoldable pub outcome_of : ℕ → Option Truth
+outcome_of byte = cond (evaluated byte) (Some (answer_of byte)) None

@@ -3,27 +3,20 @@
 
 ghost use Rattle.std.specs.Prelude.{◌≡◌, ◌<◌, length, get_or, set};
 ghost use Rattle.evaluation.specs.Kleene.{not_of, join_of, unit_of, decider_of};
-ghost use Rattle.evaluation.specs.Table.{number_of, table_of, at_table};
+ghost use Rattle.evaluation.specs.Table.{table_of, at_table};
 ghost use Rattle.evaluation.specs.Results.{answer_bits, result_byte, evaluated, outcome_of};
 
-#[derive(Clone, Copy)]
+#[derive(Clone, Copy, Debug, PartialEq, Eq)]
 pub enum Truth {
     False,
     Undefined,
     True,
 }
 
-#[derive(Clone, Copy)]
+#[derive(Clone, Copy, Debug, PartialEq, Eq)]
 pub enum Operator {
     And,
     Or,
-}
-
-// What a search knows of a part: a part never valued has no answer.
-#[derive(Clone, Copy)]
-pub enum Outcome {
-    Unvalued,
-    Valued(Truth),
 }
 
 // Rows and columns stand in the order False, Undefined, True.
@@ -48,24 +41,10 @@ pub fn table_of(operator: Operator) -> [[Truth; 3]; 3]
     }
 }
 
-// The row or the column of a value.
-fn number(value: Truth) -> usize
-    ensures { result ≡ number_of value }
-{
-    match value {
-        Truth::False => 0,
-        Truth::Undefined => 1,
-        Truth::True => 2,
-    }
-}
-
 pub fn combine(table: [[Truth; 3]; 3], a: Truth, b: Truth) -> Truth
     ensures { result ≡ at_table table a b }
 {
-    let i = number(a);
-    let j = number(b);
-    let row = table[i];
-    row[j]
+    table[a as usize][b as usize]
 }
 
 pub fn join(operator: Operator, a: Truth, b: Truth) -> Truth
@@ -125,29 +104,30 @@ pub fn set_result(results: &mut [u8], part: usize, value: Truth)
     requires { part < length results.old }
     ensures { results.new ≡ set results.old part (result_byte value) }
 {
-    results[part] = answer_bits(value) + EVALUATED;
+    results[part] = answer_bits(value) | EVALUATED;
 }
 
 pub fn is_evaluated(results: &[u8], part: usize) -> bool
     requires { part < length results.now }
     ensures { result ≡ evaluated (get_or results.now part 0) }
 {
-    results[part] / EVALUATED % 2 == 1
+    results[part] & EVALUATED != 0
 }
 
-pub fn get_result(results: &[u8], part: usize) -> Outcome
+// What a search knows of a part: a part never valued has no answer.
+pub fn get_result(results: &[u8], part: usize) -> Option<Truth>
     requires { part < length results.now }
     ensures { result ≡ outcome_of (get_or results.now part 0) }
 {
     let byte = results[part];
-    if byte / EVALUATED % 2 == 1 {
-        if byte / FAILED % 2 == 1 {
-            return Outcome::Valued(Truth::False);
-        }
-        if byte / SUCCESS % 2 == 1 {
-            return Outcome::Valued(Truth::True);
-        }
-        return Outcome::Valued(Truth::Undefined);
+    if byte & EVALUATED == 0 {
+        return None;
     }
-    Outcome::Unvalued
+    if byte & FAILED != 0 {
+        return Some(Truth::False);
+    }
+    if byte & SUCCESS != 0 {
+        return Some(Truth::True);
+    }
+    Some(Truth::Undefined)
 }

@@ -1,5 +1,6 @@
-pub mod WordsLaws
-pub mod PartLaws
+pub mod SuitsLaws
 pub mod EventsLaws
 pub mod SuitedLaws
-pub mod SuitsLaws
+mod PartLaws
+mod RangeLaws
+mod WordsLaws

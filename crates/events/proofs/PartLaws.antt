@@ -1,27 +1,20 @@
--- The part of the list store that is an attribute's list: its whole row, or as long as the length says. Assumes nothing.
-use mathlib.Core.Path.{◌≡◌, sym, ◌∙◌}
-use mathlib.Core.List.{List}
-use Prim.Native.Nat.{ℕ, ◌+◌, ◌-◌, ◌*◌, ◌≤◌, ◌<◌}
-use native.Mathlib.Omega.{arith}
-use lib.IntN.{ℤ}
-use lib.ListN.{get_or, take, drop, length-take}
+-- The part of the list store that is an attribute's list: as long as the length says, and no longer than its row. Assumes nothing.
+use Rattle.std.proofs.Common.{◌≡◌, List, ℕ, ◌+◌, ◌-◌, ◌*◌, ◌<◌, min, ℤ, get_or, take, drop, sym, length-take, arith}
+use Rattle.std.proofs.Math.Decide.{dec_lt}
 use lib.Seq.{take_all, take-take}
 use Rattle.lists.specs.Sets.{list_limit}
 use Rattle.events.specs.Events.{row_at, list_at}
 
-module _ (lists : List ℤ) (lengths : List ℕ) (i : ℕ) where
-  abbrev start : ℕ
-  start = list_limit * i
+shorter : (m n : ℕ) (l : List ℤ) → take (min m n) l ≡ take m (take n l)
+shorter m n l = go (dec_lt n m)
+  where
+    go : Dec (n < m) → take (min m n) l ≡ take m (take n l)
+    go (yes h) = let e : min m n ≡ n = omega arith in rw e (sym (take_all m (take n l) (omega (arith, length-take n l))))
+    go (no h) = let e : min m n ≡ m = omega (arith, h) in rw e (sym (take-take m n l (omega (arith, h))))
 
-  part_of : (n : ℕ) → take (start + n - start) (drop start lists) ≡ take n (drop start lists)
-  part_of n = let e : start + n - start ≡ n = omega arith in rw e
-
-  pub part_row : list_limit < get_or lengths i 0 → take (start + list_limit - start) (drop start lists) ≡ list_at lists lengths i
-  unfolding list_at row_at
-  part_row long =
-      let row = take list_limit (drop start lists) in
-      part_of list_limit ∙ sym (take_all (get_or lengths i 0) row (omega (arith, length-take list_limit (drop start lists))))
-
-  pub part_list : get_or lengths i 0 ≤ list_limit → take (start + get_or lengths i 0 - start) (drop start lists) ≡ list_at lists lengths i
-  unfolding list_at row_at
-  part_list short = part_of (get_or lengths i 0) ∙ sym (take-take (get_or lengths i 0) list_limit (drop start lists) short)
+pub part_list : (lists : List ℤ) (lengths : List ℕ) (i n : ℕ) → n ≡ min (get_or lengths i 0) list_limit
+    → take (list_limit * i + n - list_limit * i) (drop (list_limit * i) lists) ≡ list_at lists lengths i
+unfolding list_at row_at
+part_list lists lengths i n e =
+    let d : list_limit * i + n - list_limit * i ≡ n = omega arith in
+    rw (d, e) (shorter (get_or lengths i 0) list_limit (drop (list_limit * i) lists))

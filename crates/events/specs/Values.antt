@@ -1,10 +1,11 @@
 -- The values of attributes: the number of each one's kind, the ranges of words and lists of words, and the value that a number of a kind,
 -- a number and a scale stand for. Laws in `ValuesLaws`.
 -- Assumes nothing.
-use Rattle.std.specs.Prelude.{Bool, true, cond, not, ◌||◌, List, [], ◌∷◌, ℕ, eqb, ℤ, pos}
+use Rattle.std.specs.Prelude.{Bool, true, cond, not, Option, None, Some, ◌||◌, List, [], ◌∷◌, ℕ, eqb, ℤ, pos}
 use Rattle.std.specs.Int.Signed.{le_z}
 use Rattle.lists.specs.And.{◌and◌}
 use Rattle.lists.specs.Sets.{eq_z}
+use Rattle.attributes.specs.declared.AttributeKind.{AttributeKind}
 use Rattle.attributes.specs.declared.AttributeKind.TheVariants as kind
 use Rattle.attributes.specs.Kinds.{kind_number}
 use Rattle.events.specs.declared.AttributeValue.{AttributeValue}
@@ -14,6 +15,11 @@ use Rattle.events.specs.declared.AttributeValue.TheVariants.{Undefined, Boolean,
 
 abbrev pub undefined_number : ℕ
 undefined_number = 0
+
+-- of the kind of a value, where it has one
+abbrev pub kind_number_or : Option AttributeKind → ℕ
+kind_number_or None = undefined_number
+kind_number_or (Some k) = kind_number k
 
 abbrev pub value_number : AttributeValue → ℕ
 value_number Undefined = undefined_number

@@ -2,14 +2,14 @@
 // `filling` fills it.
 #![tactic(auto)]
 
-ghost use Rattle.std.specs.Prelude.{◌≡◌, true, ◌+◌, ◌*◌, ◌≤◌, ◌<◌, length};
+ghost use Rattle.std.specs.Prelude.{◌≡◌, ◌+◌, ◌*◌, ◌≤◌, ◌<◌, length};
 ghost use Rattle.lists.specs.Sets.{list_limit};
-ghost use Rattle.attributes.specs.Sound.{sound_table};
-ghost use Rattle.events.specs.Values.{is_up_to, all_words, is_list, value_of};
-ghost use Rattle.events.specs.Events.{Shaped, event_of, value_at, list_at, fresh_of};
-ghost use Rattle.events.specs.Suits.{list_suits, in_range, place_suits, suits_of};
+ghost use Rattle.attributes.specs.Table.{attribute_limit};
+ghost use Rattle.events.specs.Values.{kind_number_or, value_number, is_up_to, all_words, is_list, value_of};
+ghost use Rattle.events.specs.Events.{value_at, list_at, value_in, list_in, fresh_of};
+ghost use Rattle.events.specs.Suits.{list_suits, in_range, place_suits, suits_at, suits_of};
 
-use attributes::{ATTRIBUTE_LIMIT, AttributeId};
+use attributes::{ATTRIBUTE_LIMIT, AttributeId, AttributeKind, AttributeTable};
 use decimals::Decimal;
 use lists::LIST_LIMIT;
 
@@ -19,20 +19,8 @@ pub const WORD_LIMIT: i64 = 65535;
 // The places of all lists of an event: a row for each attribute.
 pub const STORE_SIZE: usize = LIST_LIMIT * ATTRIBUTE_LIMIT;
 
-// The numbers of the kinds, as the attribute table gives them, and the number of a value that is undefined.
+// What stands at a place for the number of a kind where the value is undefined.
 pub const UNDEFINED: u8 = 0;
-
-pub const BOOLEAN: u8 = 1;
-
-pub const INTEGER: u8 = 2;
-
-pub const FLOAT: u8 = 3;
-
-pub const STRING: u8 = 4;
-
-pub const INTEGER_LIST: u8 = 5;
-
-pub const STRING_LIST: u8 = 6;
 
 // A word's number: 1 to 65,535 in a rule, 0 in an event for a word that no rule uses. A type of its own, so that no attribute number can
 // stand for it.
@@ -54,6 +42,7 @@ pub enum AttributeValue {
 // An event: the number of its attributes, and a place for each. A place holds the number of the value's kind, or 0 where it is undefined;
 // the number of a boolean (0 or 1), an integer, a decimal or a word; a decimal's scale; a list's length. The elements of the list of
 // attribute i stand in row i of the list store. Places from `count` on are not judged.
+// Numbers in arrays, and no array of values: a caller may hand in any numbers, for `suits` to judge, and a list is lent out of the store.
 #[derive(Clone, Copy)]
 pub struct Event {
     pub count: usize,
@@ -68,53 +57,60 @@ pub struct Event {
 pub fn up_to(number: i64, limit: i64) -> bool
     ensures { result ≡ is_up_to number limit }
 {
-    if 0 <= number {
-        return number <= limit;
-    }
-    false
+    (0..=limit).contains(&number)
 }
 
 // Is every element a word number?
 pub fn all_words(list: &[i64]) -> bool
     ensures { result ≡ all_words list.now }
 {
-    let mut i: usize = 0;
-    while i < list.len() {
-        let word = list[i];
-        if !up_to(word, WORD_LIMIT) {
-            return false;
+    list.iter().all(|word| up_to(*word, WORD_LIMIT))
+}
+
+impl AttributeValue {
+    // The kind, unless the value is undefined.
+    pub fn kind(self) -> Option<AttributeKind>
+        ensures { kind_number_or result ≡ value_number self }
+    {
+        match self {
+            AttributeValue::Undefined => None,
+            AttributeValue::Boolean(_) => Some(AttributeKind::Boolean),
+            AttributeValue::Integer(_) => Some(AttributeKind::Integer),
+            AttributeValue::Float(_) => Some(AttributeKind::Float),
+            AttributeValue::String(_) => Some(AttributeKind::String),
+            AttributeValue::IntegerList => Some(AttributeKind::IntegerList),
+            AttributeValue::StringList => Some(AttributeKind::StringList),
         }
-        i += 1;
     }
-    true
+}
+
+// The number that stands at a place for a kind, or for none.
+pub fn kind_number(kind: Option<AttributeKind>) -> u8
+    ensures { result ≡ kind_number_or kind }
+{
+    match kind {
+        None => UNDEFINED,
+        Some(kind) => u8::from(kind),
+    }
 }
 
 // The value of a place, by the number of its kind. A number of no kind is undefined.
+#[tactic(auto, using(crate::proofs::WordsLaws::zero_bits), unfolding(crate::specs::Values::value_of))]
 fn value_of(kind: u8, number: i64, scale: u8) -> AttributeValue
     ensures { result ≡ value_of kind number scale }
 {
-    if kind == BOOLEAN {
-        return AttributeValue::Boolean(number != 0);
+    match AttributeKind::try_from(kind) {
+        Err(_) => AttributeValue::Undefined,
+        Ok(AttributeKind::Boolean) => AttributeValue::Boolean(number != 0),
+        Ok(AttributeKind::Integer) => AttributeValue::Integer(number),
+        Ok(AttributeKind::Float) => AttributeValue::Float(Decimal { number, scale }),
+        Ok(AttributeKind::String) => AttributeValue::String(StringId(number)),
+        Ok(AttributeKind::IntegerList) => AttributeValue::IntegerList,
+        Ok(AttributeKind::StringList) => AttributeValue::StringList,
     }
-    if kind == INTEGER {
-        return AttributeValue::Integer(number);
-    }
-    if kind == FLOAT {
-        return AttributeValue::Float(Decimal { number, scale });
-    }
-    if kind == STRING {
-        return AttributeValue::String(StringId(number));
-    }
-    if kind == INTEGER_LIST {
-        return AttributeValue::IntegerList;
-    }
-    if kind == STRING_LIST {
-        return AttributeValue::StringList;
-    }
-    AttributeValue::Undefined
 }
 
-// The value of an attribute.
+// The value of an attribute, of whatever slices hold the places of an event.
 pub fn value_at<'a>(
     kinds: &'a [u8],
     numbers: &'a [i64],
@@ -124,8 +120,7 @@ pub fn value_at<'a>(
     requires { (i < length kinds.now) × (i < length numbers.now) × (i < length scales.now) }
     ensures { result ≡ value_at kinds.now numbers.now scales.now i }
 {
-    let number = numbers[i];
-    value_of(kinds[i], number, scales[i])
+    value_of(kinds[i], numbers[i], scales[i])
 }
 
 // The list of an attribute, as a part of the list store. A damaged length reaches no further than the row.
@@ -134,55 +129,58 @@ pub fn list_at<'a>(lists: &'a [i64], lengths: &'a [usize], i: usize) -> &'a [i64
     ensures { result.now ≡ list_at lists.now lengths.now i }
 {
     let start = LIST_LIMIT * i;
-    let length = lengths[i];
-    if LIST_LIMIT < length {
-        let end = start + LIST_LIMIT;
-        return &lists[start..end];
-    }
-    let end = start + length;
+    let end = start + lengths[i].min(LIST_LIMIT);
     &lists[start..end]
 }
 
+impl Event {
+    // The value of an attribute.
+    pub fn value(&self, i: usize) -> AttributeValue
+        requires { i < attribute_limit }
+        ensures { result ≡ value_in self.now i }
+    {
+        value_at(&self.kinds, &self.numbers, &self.scales, i)
+    }
+
+    // The list of an attribute.
+    pub fn list(&self, i: usize) -> &[i64]
+        requires { i < attribute_limit }
+        ensures { result.now ≡ list_in self.now i }
+    {
+        list_at(&self.lists, &self.lengths, i)
+    }
+}
+
 // Does the number of a kind stand for a list?
+#[tactic(auto, unfolding(crate::specs::Values::is_list))]
 fn is_list(kind: u8) -> bool
     ensures { result ≡ is_list kind }
 {
-    if kind == INTEGER_LIST {
-        return true;
-    }
-    kind == STRING_LIST
+    matches!(
+        AttributeKind::try_from(kind),
+        Ok(AttributeKind::IntegerList | AttributeKind::StringList)
+    )
 }
 
 // Is the value in the range of its kind?
+#[tactic(auto, using(crate::proofs::SuitsLaws::range_cases))]
 fn in_range(kind: u8, number: i64, scale: u8, list: &[i64]) -> bool
     ensures { result ≡ in_range kind number scale list.now }
 {
-    if kind == BOOLEAN {
-        return up_to(number, 1);
+    match AttributeKind::try_from(kind) {
+        Ok(AttributeKind::Boolean) => up_to(number, 1),
+        Ok(AttributeKind::Float) => scale <= decimals::SCALE_LIMIT,
+        Ok(AttributeKind::String) => up_to(number, WORD_LIMIT),
+        Ok(AttributeKind::StringList) => all_words(list),
+        _ => true,
     }
-    if kind == FLOAT {
-        return scale <= decimals::SCALE_LIMIT;
-    }
-    if kind == STRING {
-        return up_to(number, WORD_LIMIT);
-    }
-    if kind == STRING_LIST {
-        return all_words(list);
-    }
-    true
 }
 
 // Does a value that is a list stay inside its row and ascend?
 fn list_suits(kind: u8, length: usize, list: &[i64]) -> bool
     ensures { result ≡ list_suits kind length list.now }
 {
-    if !is_list(kind) {
-        return true;
-    }
-    if LIST_LIMIT < length {
-        return false;
-    }
-    lists::ascending(list)
+    !is_list(kind) || (length <= LIST_LIMIT && lists::ascending(list))
 }
 
 // Does a value suit an attribute whose kind has the number `own`?
@@ -196,70 +194,37 @@ fn place_suits(own: u8, kind: u8, number: i64, scale: u8, length: usize, list: &
     if kind != own {
         return false;
     }
-    if !list_suits(kind, length, list) {
-        return false;
-    }
-    in_range(kind, number, scale, list)
+    list_suits(kind, length, list) && in_range(kind, number, scale, list)
 }
 
-// Does the event that stands in these slices suit the table?
-pub fn suits_lent<'a>(
-    table: &'a [u8],
-    count: usize,
-    kinds: &'a [u8],
-    numbers: &'a [i64],
-    scales: &'a [u8],
-    lengths: &'a [usize],
-    lists: &'a [i64],
-) -> bool
-    requires { (sound_table table.now ≡ true)
-        × Shaped (event_of count kinds.now numbers.now scales.now lengths.now lists.now) }
-    ensures { result ≡ suits_of table.now (event_of count kinds.now numbers.now scales.now
-        lengths.now lists.now) }
+// Does what the event holds of an attribute suit the table?
+fn suits_at(table: AttributeTable, event: &Event, i: usize) -> bool
+    requires { i < attribute_limit }
+    ensures { result ≡ suits_at table.entry.bytes.now event.now i }
 {
-    if count != attributes::len(table) {
-        return false;
-    }
-    let mut i = 0;
-    while i < count {
-        let own = attributes::by_id(table, AttributeId(i));
-        let list = list_at(lists, lengths, i);
-        let number = numbers[i];
-        if !place_suits(own, kinds[i], number, scales[i], lengths[i], list) {
-            return false;
-        }
-        i += 1;
-    }
-    true
+    let own = table.by_id(AttributeId(i));
+    let (kind, number, scale) = (event.kinds[i], event.numbers[i], event.scales[i]);
+    place_suits(own, kind, number, scale, event.lengths[i], event.list(i))
 }
 
 // Does the event suit the table?
-pub fn suits(table: &[u8], event: Event) -> bool
-    requires { sound_table table.now ≡ true }
-    ensures { result ≡ suits_of table.now event }
+pub fn suits(table: AttributeTable, event: &Event) -> bool
+    ensures { result ≡ suits_of table.entry.bytes.now event.now }
 {
-    let count = event.count;
-    suits_lent(
-        table,
-        count,
-        &event.kinds,
-        &event.numbers,
-        &event.scales,
-        &event.lengths,
-        &event.lists,
-    )
+    event.count == table.len() && (0..event.count).all(|i| suits_at(table, event, i))
 }
 
 // An event of so many attributes, all undefined.
+#[tactic(auto, unfolding(crate::specs::Events::fresh_of))]
 pub fn fresh(count: usize) -> Event
     ensures { result ≡ fresh_of count }
 {
     Event {
         count,
         kinds: [UNDEFINED; ATTRIBUTE_LIMIT],
-        numbers: [0i64; ATTRIBUTE_LIMIT],
-        scales: [0u8; ATTRIBUTE_LIMIT],
-        lengths: [0usize; ATTRIBUTE_LIMIT],
-        lists: [0i64; STORE_SIZE],
+        numbers: [0; ATTRIBUTE_LIMIT],
+        scales: [0; ATTRIBUTE_LIMIT],
+        lengths: [0; ATTRIBUTE_LIMIT],
+        lists: [0; STORE_SIZE],
     }
 }

@@ -5,17 +5,18 @@
 --     filled_keeps    whatever the answer, the event keeps its shape, and suits the table if it did
 -- `fresh` is true where a reading bears no date, so that each law speaks of both calls.
 -- Assumes nothing.
-use Rattle.std.specs.Prelude.{◌≡◌, Bool, cond, not, ◌⊎◌, List, ℕ, ℤ}
+use Rattle.std.specs.Prelude.{◌≡◌, Bool, cond, Some, ◌⊎◌, List, ℕ, ℤ}
+use Rattle.std.specs.Option.{is_some}
 use Rattle.std.proofs.Math.Path.{refl}
 use Rattle.std.proofs.Math.Bool.{true, false}
 use Rattle.std.proofs.Math.Logic.{inl, inr}
 use Rattle.std.proofs.Common.{arith}
 use Rattle.std.proofs.lemmas.Bool.{eqb-false}
 use Rattle.lists.specs.Sets.{settled}
-use Rattle.error.specs.Answers.{Answer, Done, LimitPassed, NoAttribute, OtherKind, EventUnsuited, NotSet, number, then}
+use Rattle.error.specs.Answers.{Answer, Done, Refused, NotSet, number, then}
+use Rattle.error.specs.declared.Refusal.TheVariants.{LimitPassed, NoAttribute, OtherKind, EventUnsuited}
 use Rattle.error.proofs.AnswersLaws.{one_number_each}
-use Rattle.attributes.specs.declared.Found.TheVariants as found
-use Rattle.attributes.specs.Table.{kind_at, by_name, nowhere}
+use Rattle.attributes.specs.Table.{kind_at, by_name}
 use Rattle.attributes.specs.Sound.{sound_table}
 use Rattle.events.specs.declared.Event.{Event}
 use Rattle.events.specs.Values.{is_list}
@@ -28,13 +29,13 @@ use Rattle.filling.specs.declared.Reading.TheVariants.{Undefined}
 use Rattle.filling.specs.Readings.{reading_number, of_kind, within_limits, value_given}
 use Rattle.filling.specs.Setting.{with_reading}
 use Rattle.filling.proofs.SettingLaws.{set_count, set_shaped, value_set, list_set, value_kept, list_kept, set_suits}
-use Rattle.filling.specs.Filling.{refuse, place_of, refusal_of, is_done, place_for, outcome, filled_when}
-use Rattle.filling.proofs.FillingLaws.{Accepted, named_within, accepted}
+use Rattle.filling.specs.Filling.{refuse, place_of, refusal_of, is_done, answer_number, outcome, filled_when}
+use Rattle.filling.proofs.FillingLaws.{Accepted, named_within, answer_back, done, accepted}
 
 -- f is e with the reading set for the attribute of that name
 pub record Taken (t : List ℕ) (e : Event) (name : List ℕ) (reading : Reading) (list : List ℤ) (f : Event) : Type 0 where
   pub place : ℕ
-  pub named : by_name t name ≡ found.At (record { 0 = place })
+  pub named : by_name t name ≡ Some (record { 0 = place })
   pub value : value_in f place ≡ value_given reading
   pub elements : is_list (reading_number reading) ≡ true → list_in f place ≡ settled list
   pub values : (j : ℕ) → (j ≡ place → ⊥) → value_in f j ≡ value_in e j
@@ -45,13 +46,13 @@ pub record Taken (t : List ℕ) (e : Event) (name : List ℕ) (reading : Reading
 
 -- the four checks refuse, but never for a reading's age
 checks : (suited known kind limits : Bool)
-    → then (refuse suited EventUnsuited) (then (refuse known NoAttribute) (then (refuse kind OtherKind) (refuse limits LimitPassed)))
-    ≡ NotSet → ⊥
-checks true true true true h = let z : ◌≡◌ {A = ℕ} 0 1 = cc in omega arith
-checks true true true false h = let z : ◌≡◌ {A = ℕ} 0 1 = cc in omega arith
-checks true true false limits h = let z : ◌≡◌ {A = ℕ} 0 1 = cc in omega arith
-checks true false kind limits h = let z : ◌≡◌ {A = ℕ} 0 1 = cc in omega arith
-checks false known kind limits h = let z : ◌≡◌ {A = ℕ} 0 1 = cc in omega arith
+    → then (refuse suited (Refused EventUnsuited)) (then (refuse known (Refused NoAttribute))
+    (then (refuse kind (Refused OtherKind)) (refuse limits (Refused LimitPassed)))) ≡ NotSet → ⊥
+checks true true true true h = cc
+checks true true true false h = cc
+checks true true false limits h = cc
+checks true false kind limits h = cc
+checks false known kind limits h = cc
 
 module _ (t : List ℕ) (e : Event) (name : List ℕ) (reading : Reading) (list : List ℤ) where
   -- ---- filling by cases: no refusal, or one
@@ -71,18 +72,18 @@ module _ (t : List ℕ) (e : Event) (name : List ℕ) (reading : Reading) (list 
   Kept fresh = (number refusal ≡ 0 → ⊥) × (filled fresh ≡ outcome refusal e)
 
   cases : (fresh : Bool) → Set fresh ⊎ Kept fresh
-  unfolding filled_when place_for
+  unfolding filled_when
   cases fresh = go (is_done refusal) refl
     where
       go : (b : Bool) → is_done refusal ≡ b → Set fresh ⊎ Kept fresh
-      go true q = inl (place_of (by_name t name), accepted (suits_of t e) t name reading list (place_of (by_name t name)) (rw q), rw q)
+      go true q = inl (place_of (by_name t name), accepted (suits_of t e) t name reading list (done refusal q), rw q)
       go false q = inr (eqb-false (number refusal) 0 q, rw q)
 
   no_age : number refusal ≡ number NotSet → ⊥
   unfolding refusal_of
   no_age h =
       let place = by_name t name in
-      checks (suits_of t e) (not (nowhere place)) (of_kind reading (kind_at t (place_of place))) (within_limits reading list)
+      checks (suits_of t e) (is_some place) (of_kind reading (kind_at t (place_of place))) (within_limits reading list)
       (one_number_each refusal NotSet h)
 
   -- ---- what each answer promises
@@ -108,35 +109,35 @@ module _ (t : List ℕ) (e : Event) (name : List ℕ) (reading : Reading) (list 
     unfolding of_kind
     undefined i a = taken i a Undefined refl refl
 
-    pub done_taken : (fresh : Bool) → (filled fresh).answer ≡ number Done
+    pub done_taken : (fresh : Bool) → answer_number (filled fresh) ≡ number Done
         → (fresh ≡ true) × Taken t e name reading list (filled fresh).event
     done_taken fresh h = go fresh (cases fresh) h
       where
         go : (f : Bool) → Set f ⊎ Kept f
-            → (filled f).answer ≡ number Done
+            → answer_number (filled f) ≡ number Done
             → (f ≡ true) × Taken t e name reading list (filled f).event
         go true (inl p) k = (refl, rw p.2 (taken p.0 p.1 reading p.1.kind p.1.limits))
         go false (inl p) k = absurd (let z : ◌≡◌ {A = ℕ} 40 0 = rw p.2 at k in omega arith)
-        go f (inr p) k = absurd (p.0 (rw p.1 at k))
+        go f (inr p) k = absurd (p.0 (rw (p.1, answer_back refusal) at k))
 
-    pub old_taken : (fresh : Bool) → (filled fresh).answer ≡ number NotSet
+    pub old_taken : (fresh : Bool) → answer_number (filled fresh) ≡ number NotSet
         → (fresh ≡ false) × Taken t e name Undefined list (filled fresh).event
     old_taken fresh h = go fresh (cases fresh) h
       where
         go : (f : Bool) → Set f ⊎ Kept f
-            → (filled f).answer ≡ number NotSet
+            → answer_number (filled f) ≡ number NotSet
             → (f ≡ false) × Taken t e name Undefined list (filled f).event
         go true (inl p) k = absurd (let z : ◌≡◌ {A = ℕ} 0 40 = rw p.2 at k in omega arith)
         go false (inl p) k = (refl, rw p.2 (undefined p.0 p.1))
-        go f (inr p) k = absurd (no_age (rw p.1 at k))
+        go f (inr p) k = absurd (no_age (rw (p.1, answer_back refusal) at k))
 
-  pub refused_same : (fresh : Bool) → ((filled fresh).answer ≡ number Done → ⊥)
-      → ((filled fresh).answer ≡ number NotSet → ⊥) → (filled fresh).event ≡ e
+  pub refused_same : (fresh : Bool) → (answer_number (filled fresh) ≡ number Done → ⊥)
+      → (answer_number (filled fresh) ≡ number NotSet → ⊥) → (filled fresh).event ≡ e
   refused_same fresh done old = go fresh (cases fresh) done old
     where
       go : (f : Bool) → Set f ⊎ Kept f
-          → ((filled f).answer ≡ number Done → ⊥)
-          → ((filled f).answer ≡ number NotSet → ⊥) → (filled f).event ≡ e
+          → (answer_number (filled f) ≡ number Done → ⊥)
+          → (answer_number (filled f) ≡ number NotSet → ⊥) → (filled f).event ≡ e
       go true (inl p) d o = absurd (d (rw p.2))
       go false (inl p) d o = absurd (o (rw p.2))
       go f (inr p) d o = rw p.1

@@ -1,4 +1,4 @@
-pub mod RowLaws
+mod RowLaws
 pub mod AgesLaws
 pub mod FilledLaws
 pub mod FillingLaws

@@ -4,11 +4,16 @@
 --     value_kept, list_kept               what is read at every other place is what it was
 --     set_suits                           it suits the table that the event suited
 -- Assumes nothing.
-use Rattle.std.specs.Prelude.{◌≡◌, true, false, List, ℕ, ◌≤◌, ◌<◌, ℤ, pos, nat_abs, length, get_or, set, take}
+use Rattle.std.specs.Prelude.{◌≡◌, true, false, ◌⊎◌, List, ℕ, ◌≤◌, ◌<◌, ℤ, pos, nat_abs, length, get_or, set, take}
 use Rattle.std.proofs.Math.Path.{refl}
-use Rattle.std.proofs.Common.{sym, ◌∙◌, true≢false, arith, length-set, get_or-set_same}
+use Rattle.std.proofs.Common.{inl, inr, sym, ◌∙◌, true≢false, arith, length-set, get_or-set_same}
 use Rattle.std.proofs.Math.Decide.{ℕ_discrete}
 use borrow.Author.Tests.{eqb-true, leb-true, le-leb}
+use lib.Dec.{T}
+use lib.Signed.{non_neg}
+use mir.Syntax.{w8, w64}
+use mir.Val.{Fits, SFits, to_z, of_z}
+use mir.Facts.{to_z-of_z}
 use Rattle.std.proofs.Math.Seq.{length-sets, get_or-set_other}
 use Rattle.lists.specs.AndLaws.{and_left, and_right}
 use Rattle.lists.specs.Sets.{eq_z, settled, list_limit, row_of}
@@ -16,7 +21,7 @@ use Rattle.lists.proofs.SetsLaws.{settled_ascends, settled_length, padded_held, 
 use Rattle.decimals.specs.Decimals.{scale_limit}
 use Rattle.attributes.specs.Table.{attribute_limit, kind_at}
 use Rattle.events.specs.declared.Event.{Event}
-use Rattle.events.specs.Values.{undefined_number, is_list, value_of}
+use Rattle.events.specs.Values.{undefined_number, is_list, is_up_to, value_of}
 use Rattle.events.specs.ValuesLaws.{up_to, to_up, words_settled}
 use Rattle.events.specs.Events.{Shaped, kind_of, number_of, scale_of, length_of, list_at, value_in, list_in}
 use Rattle.events.proofs.EventsLaws.{row_inside, row_outside}
@@ -50,6 +55,19 @@ module _ (list : List ℤ) where
 
   words_few : within_limits StringList list ≡ true → length list ≤ list_limit
   words_few h = leb-true (length list) list_limit (and_left _ _ h)
+
+pub list_few : (reading : Reading) (list : List ℤ) → (reading ≡ IntegerList) ⊎ (reading ≡ StringList)
+    → within_limits reading list ≡ true → length list ≤ list_limit
+list_few reading list (inl e) h = integers_few list (rw e at h)
+list_few reading list (inr e) h = words_few list (rw e at h)
+
+-- and a scale within its limit is a byte
+pub scale_fits : (s : ℤ) → is_up_to s (pos scale_limit) ≡ true
+    → T (non_neg (to_z w64 (of_z w64 s))) × Fits w8 (nat_abs (to_z w64 (of_z w64 s)))
+scale_fits s h =
+    let n = up_to s scale_limit h in
+    let small : SFits w64 (pos n.0) = record { sfits = omega (arith, n.2) } in
+    rw (n.1, to_z-of_z small) (tt, omega (arith, n.2))
 
 -- ---- the shape and the count
 

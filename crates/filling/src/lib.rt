@@ -2,24 +2,24 @@
 // and nothing is changed. A dated reading that is out of date makes its attribute undefined.
 #![tactic(auto)]
 
-ghost use Rattle.std.specs.Prelude.{◌≡◌, true, ◌+◌, ◌*◌, ◌≤◌, ◌<◌, length, pos, nat_abs};
+ghost use Rattle.std.specs.Prelude.{◌≡◌, true, ◌+◌, ◌*◌, ◌≤◌, ◌<◌, length, IfOk};
 ghost use Rattle.std.proofs.lemmas.List.Edits.{sets};
+ghost use Rattle.error.specs.Answers.{answered};
 ghost use Rattle.lists.specs.Sets.{list_limit};
-ghost use Rattle.decimals.specs.Decimals.{scale_limit};
-ghost use Rattle.attributes.specs.Table.{attribute_limit};
-ghost use Rattle.attributes.specs.Sound.{sound_table};
-ghost use Rattle.events.specs.Values.{is_up_to};
-ghost use Rattle.events.specs.Events.{store_size};
-ghost use Rattle.filling.specs.Readings.{reading_number, of_kind, bit_of, list_within, within_limits};
+ghost use Rattle.attributes.specs.Table.{attribute_limit, by_name};
+ghost use Rattle.events.specs.Values.{kind_number_or};
+ghost use Rattle.filling.specs.Readings.{reading_number, of_kind, list_within, within_limits};
 ghost use Rattle.filling.specs.Setting.{with_kind, with_scalar, with_list, with_reading};
-ghost use Rattle.filling.specs.Filling.{place_for, filled_when, filled_of};
+ghost use Rattle.filling.specs.Filling.{place_of, refusal_of, answer_number, filled_when, filled_of};
 ghost use Rattle.filling.specs.Ages.{is_fresh, dated_of};
 
-use attributes::{ATTRIBUTE_LIMIT, AttributeId, Found};
-use events::{Event, STORE_SIZE, StringId};
+use attributes::{AttributeKind, AttributeTable};
+use error::Refusal;
+use events::{Event, StringId};
 use lists::LIST_LIMIT;
 
-// What is handed in for an attribute. The elements of a list stand beside it. A scale or a word may be out of range: it is refused then.
+// What is handed in for an attribute. The elements of a list stand beside it, as in an event. It is no AttributeValue: a scale or a word
+// may be out of range, and is refused then.
 #[derive(Clone, Copy)]
 pub enum Reading {
     Undefined,
@@ -31,40 +31,48 @@ pub enum Reading {
     StringList,
 }
 
-// What filling gives: the answer, and the event after.
+// What a reading that is not refused does: it is set, or its attribute is undefined now, since it was out of date.
+#[derive(Clone, Copy, Debug, PartialEq, Eq)]
+pub enum Setting {
+    Set,
+    NotSet,
+}
+
+// What filling gives: the answer, and the event after, which a refusal hands back as it was.
 #[derive(Clone, Copy)]
 pub struct Filled {
-    pub answer: u8,
+    pub answer: Result<Setting, Refusal>,
     pub event: Event,
 }
 
-// Where a reading goes, or the answer that refuses it.
-#[derive(Clone, Copy)]
-enum Place {
-    At(usize),
-    Refused(u8),
-}
-
-// The number of a reading's kind.
-fn reading_number(reading: Reading) -> u8
-    ensures { result ≡ reading_number reading }
-{
-    match reading {
-        Reading::Undefined => events::UNDEFINED,
-        Reading::Boolean(_) => events::BOOLEAN,
-        Reading::Integer(_) => events::INTEGER,
-        Reading::Float(_, _) => events::FLOAT,
-        Reading::String(_) => events::STRING,
-        Reading::IntegerList => events::INTEGER_LIST,
-        Reading::StringList => events::STRING_LIST,
+impl Filled {
+    // The answer's number in the table of answers.
+    pub fn number(&self) -> u8
+        ensures { result ≡ answer_number self.now }
+    {
+        match self.answer {
+            Ok(Setting::Set) => 0,
+            Ok(Setting::NotSet) => 40,
+            Err(refusal) => refusal.number(),
+        }
     }
 }
 
-// A boolean as an event keeps it.
-fn bit(value: bool) -> i64
-    ensures { result ≡ bit_of value }
-{
-    if value { 1 } else { 0 }
+impl Reading {
+    // The kind, unless the reading is undefined.
+    fn kind(self) -> Option<AttributeKind>
+        ensures { kind_number_or result ≡ reading_number self }
+    {
+        match self {
+            Reading::Undefined => None,
+            Reading::Boolean(_) => Some(AttributeKind::Boolean),
+            Reading::Integer(_) => Some(AttributeKind::Integer),
+            Reading::Float(_, _) => Some(AttributeKind::Float),
+            Reading::String(_) => Some(AttributeKind::String),
+            Reading::IntegerList => Some(AttributeKind::IntegerList),
+            Reading::StringList => Some(AttributeKind::StringList),
+        }
+    }
 }
 
 // Is the list, as it was given, no longer than a list may be?
@@ -79,94 +87,57 @@ fn within_limits(reading: Reading, list: &[i64]) -> bool
     ensures { result ≡ within_limits reading list.now }
 {
     match reading {
-        Reading::Undefined => true,
-        Reading::Boolean(_) => true,
-        Reading::Integer(_) => true,
-        Reading::Float(_, scale) => events::up_to(scale, decimals::SCALE_LIMIT as i64),
+        Reading::Undefined | Reading::Boolean(_) | Reading::Integer(_) => true,
+        Reading::Float(_, scale) => events::up_to(scale, i64::from(decimals::SCALE_LIMIT)),
         Reading::String(word) => events::up_to(word.0, events::WORD_LIMIT),
         Reading::IntegerList => list_within(list),
-        Reading::StringList => {
-            if !list_within(list) {
-                return false;
-            }
-            events::all_words(list)
-        }
+        Reading::StringList => list_within(list) && events::all_words(list),
     }
-}
-
-// A scale as an event keeps it.
-fn scale_of(scale: i64) -> u8
-    requires { is_up_to scale (pos scale_limit) ≡ true }
-    ensures { result ≡ nat_abs scale }
-{
-    scale as u8
 }
 
 // Writes a row to the list store.
-fn write_row(lists: &mut [i64; STORE_SIZE], i: usize, places: &[i64])
-    requires { (i < attribute_limit) × (length lists.old ≡ store_size) × (length places.now ≡ list_limit) }
+fn write_row(lists: &mut [i64], i: usize, places: &[i64])
+    requires { (list_limit * i + list_limit ≤ length lists.old) × (length places.now ≡ list_limit) }
     ensures { lists.new ≡ sets lists.old (list_limit * i) places.now }
 {
     let start = LIST_LIMIT * i;
-    let mut k: usize = 0;
-    while k < LIST_LIMIT {
-        let x = places[k];
-        lists[start + k] = x;
-        k += 1;
-    }
+    lists[start..start + LIST_LIMIT].copy_from_slice(places);
 }
 
-// The event with another kind at a place.
-fn set_kind(event: Event, i: usize, kind: u8) -> Event
+// Sets a value at a place that is no list.
+fn set_scalar(event: &mut Event, i: usize, kind: u8, number: i64, scale: u8)
     requires { i < attribute_limit }
-    ensures { result ≡ with_kind event i kind }
+    ensures { event.new ≡ with_scalar event.old i kind number scale }
 {
-    let mut next = event;
-    next.kinds[i] = kind;
-    next
+    event.kinds[i] = kind;
+    event.numbers[i] = number;
+    event.scales[i] = scale;
 }
 
-// The event with a value at a place that is no list.
-fn set_scalar(event: Event, i: usize, kind: u8, number: i64, scale: u8) -> Event
-    requires { i < attribute_limit }
-    ensures { result ≡ with_scalar event i kind number scale }
-{
-    let mut next = event;
-    next.kinds[i] = kind;
-    next.numbers[i] = number;
-    next.scales[i] = scale;
-    next
-}
-
-// The event with a list at a place, sorted and made distinct.
-fn set_list(event: Event, i: usize, kind: u8, list: &[i64]) -> Event
+// Sets a list at a place, sorted and made distinct.
+fn set_list(event: &mut Event, i: usize, kind: u8, list: &[i64])
     requires { (i < attribute_limit) × (length list.now ≤ list_limit) }
-    ensures { result ≡ with_list event i kind list.now }
+    ensures { event.new ≡ with_list event.old i kind list.now }
 {
     let row = lists::settle(list);
-    let places = row.places;
-    let mut next = event;
-    next.kinds[i] = kind;
-    next.lengths[i] = row.length;
-    write_row(&mut next.lists, i, &places);
-    next
+    event.kinds[i] = kind;
+    event.lengths[i] = row.length;
+    write_row(&mut event.lists, i, &row.places);
 }
 
-// The event with a reading at a place.
-fn set_reading(event: Event, i: usize, reading: Reading, list: &[i64]) -> Event
+// Sets a reading at a place.
+fn set_reading(event: &mut Event, i: usize, reading: Reading, list: &[i64])
     requires { (i < attribute_limit) × (within_limits reading list.now ≡ true) }
-    ensures { result ≡ with_reading event i reading list.now }
+    ensures { event.new ≡ with_reading event.old i reading list.now }
 {
+    let kind = events::kind_number(reading.kind());
     match reading {
-        Reading::Undefined => set_kind(event, i, events::UNDEFINED),
-        Reading::Boolean(value) => set_scalar(event, i, events::BOOLEAN, bit(value), 0),
-        Reading::Integer(number) => set_scalar(event, i, events::INTEGER, number, 0),
-        Reading::Float(number, scale) => {
-            set_scalar(event, i, events::FLOAT, number, scale_of(scale))
-        }
-        Reading::String(word) => set_scalar(event, i, events::STRING, word.0, 0),
-        Reading::IntegerList => set_list(event, i, events::INTEGER_LIST, list),
-        Reading::StringList => set_list(event, i, events::STRING_LIST, list),
+        Reading::Undefined => event.kinds[i] = kind,
+        Reading::Boolean(value) => set_scalar(event, i, kind, i64::from(value), 0),
+        Reading::Integer(number) => set_scalar(event, i, kind, number, 0),
+        Reading::Float(number, scale) => set_scalar(event, i, kind, number, scale as u8),
+        Reading::String(word) => set_scalar(event, i, kind, word.0, 0),
+        Reading::IntegerList | Reading::StringList => set_list(event, i, kind, list),
     }
 }
 
@@ -174,97 +145,90 @@ fn set_reading(event: Event, i: usize, reading: Reading, list: &[i64]) -> Event
 fn of_kind(reading: Reading, own: u8) -> bool
     ensures { result ≡ of_kind reading own }
 {
-    let number = reading_number(reading);
-    if number == events::UNDEFINED {
-        return true;
+    match reading.kind() {
+        None => true,
+        Some(kind) => u8::from(kind) == own,
     }
-    number == own
 }
 
 // Where the reading goes, once it is known whether the event suits the table; or the first refusal.
-fn place_for(suited: bool, table: &[u8], name: &[u8], reading: Reading, list: &[i64]) -> Place
-    requires { sound_table table.now ≡ true }
-    ensures { result ≡ place_for suited table.now name.now reading list.now }
+#[tactic(auto, unfolding(crate::specs::Filling::refusal_of))]
+fn place_for(
+    suited: bool,
+    table: AttributeTable,
+    name: &[u8],
+    reading: Reading,
+    list: &[i64],
+) -> Result<usize, Refusal>
+    ensures answer { answered result ≡ refusal_of suited table.entry.bytes.now name.now reading list.now }
+    ensures place { IfOk result (λ i. i ≡ place_of (by_name table.entry.bytes.now name.now)) }
+    ensures within { IfOk result (λ i. i < attribute_limit) }
+    ensures limits { IfOk result (λ _. within_limits reading list.now ≡ true) }
 {
     if !suited {
-        return Place::Refused(error::EVENT_UNSUITED);
+        return Err(Refusal::EventUnsuited);
     }
-    match attributes::by_name(table, name) {
-        Found::Nothing => Place::Refused(error::NO_ATTRIBUTE),
-        Found::At(id) => {
-            if !of_kind(reading, attributes::by_id(table, id)) {
-                return Place::Refused(error::OTHER_KIND);
-            }
-            if !within_limits(reading, list) {
-                return Place::Refused(error::LIMIT_PASSED);
-            }
-            Place::At(id.0)
-        }
+    let id = table.by_name(name).ok_or(Refusal::NoAttribute)?;
+    if !of_kind(reading, table.by_id(id)) {
+        return Err(Refusal::OtherKind);
     }
+    if !within_limits(reading, list) {
+        return Err(Refusal::LimitPassed);
+    }
+    Ok(id.0)
 }
 
 // Sets the reading if it is fresh, and makes its attribute undefined if not; or refuses it and changes nothing.
 fn fill_when(
     fresh: bool,
-    table: &[u8],
-    event: Event,
+    table: AttributeTable,
+    mut event: Event,
     name: &[u8],
     reading: Reading,
     list: &[i64],
 ) -> Filled
-    requires { sound_table table.now ≡ true }
-    ensures { result ≡ filled_when fresh table.now event name.now reading list.now }
+    ensures { result ≡ filled_when fresh table.entry.bytes.now event name.now reading list.now }
 {
-    let count = event.count;
-    let suited = events::suits_lent(
-        table,
-        count,
-        &event.kinds,
-        &event.numbers,
-        &event.scales,
-        &event.lengths,
-        &event.lists,
-    );
-    match place_for(suited, table, name, reading, list) {
-        Place::Refused(answer) => Filled { answer, event },
-        Place::At(i) => {
+    let suited = events::suits(table, &event);
+    let answer = match place_for(suited, table, name, reading, list) {
+        Err(refusal) => Err(refusal),
+        Ok(i) => {
             if fresh {
-                let next = set_reading(event, i, reading, list);
-                return Filled {
-                    answer: error::DONE,
-                    event: next,
-                };
-            }
-            let next = set_kind(event, i, events::UNDEFINED);
-            Filled {
-                answer: error::NOT_SET,
-                event: next,
+                set_reading(&mut event, i, reading, list);
+                Ok(Setting::Set)
+            } else {
+                set_reading(&mut event, i, Reading::Undefined, list);
+                Ok(Setting::NotSet)
             }
         }
-    }
+    };
+    Filled { answer, event }
 }
 
 // Is a reading of this stamp neither too far ahead nor too old?
 fn is_fresh(tolerance: u64, stamp: u64, present: u64, greatest_age: u64) -> bool
     ensures { result ≡ is_fresh tolerance stamp present greatest_age }
 {
-    if present < stamp {
-        return stamp - present <= tolerance;
-    }
-    present - stamp <= greatest_age
+    stamp.saturating_sub(present) <= tolerance && present.saturating_sub(stamp) <= greatest_age
 }
 
-// Sets a reading for the attribute of this name.
-pub fn fill(table: &[u8], event: Event, name: &[u8], reading: Reading, list: &[i64]) -> Filled
-    requires { sound_table table.now ≡ true }
-    ensures { result ≡ filled_of table.now event name.now reading list.now }
+// Sets a reading for the attribute of this name. Name, reading and list come one by one, as EventBuilder's methods take a name and a value:
+// a caller has them apart.
+pub fn fill(
+    table: AttributeTable,
+    event: Event,
+    name: &[u8],
+    reading: Reading,
+    list: &[i64],
+) -> Filled
+    ensures { result ≡ filled_of table.entry.bytes.now event name.now reading list.now }
 {
     fill_when(true, table, event, name, reading, list)
 }
 
 // Sets a reading that bears a date, if it is not out of date; all dates and ages are in seconds.
 pub fn fill_dated(
-    table: &[u8],
+    table: AttributeTable,
     event: Event,
     name: &[u8],
     reading: Reading,
@@ -273,8 +237,7 @@ pub fn fill_dated(
     present: u64,
     greatest_age: u64,
 ) -> Filled
-    requires { sound_table table.now ≡ true }
-    ensures { result ≡ dated_of table.now event name.now reading list.now stamp present greatest_age }
+    ensures { result ≡ dated_of table.entry.bytes.now event name.now reading list.now stamp present greatest_age }
 {
     let fresh = is_fresh(0, stamp, present, greatest_age);
     fill_when(fresh, table, event, name, reading, list)

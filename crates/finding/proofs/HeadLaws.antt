@@ -1,21 +1,27 @@
--- Heads first: a part's key is its head followed by its items, so what comparing two heads leaves open the items settle, and where the
--- heads are the same so are the sort and the number of the items.
+-- Heads first: a part's key is its head followed by its items, so what comparing two heads leaves open the items settle.
 -- Assumes nothing.
 use mathlib.Core.Path.{◌≡◌, refl, sym, ap, ◌∙◌}
-use mathlib.Core.Bool.{Bool}
-use mathlib.Core.List.{List, ◌++◌}
+use mathlib.Core.List.{List, map, ◌++◌}
+use mathlib.Core.Logic.{◌≢◌}
 use Prim.Native.Nat.{ℕ, ◌+◌, ◌*◌}
 use native.Mathlib.Omega.{arith}
 use lib.Dec.{ltb}
 use lib.ListN.{length}
 use Rattle.words.specs.Word.{word}
-use Rattle.words.specs.Frame.{Bytes}
 use Rattle.words.proofs.WordLaws.{word_split}
-use Rattle.words.proofs.FrameLaws.{word_lt}
 use Rattle.lists.proofs.TabulateLaws.{length_tabulate}
-use Rattle.decimals.specs.Order.{then_of}
-use Rattle.decimals.specs.declared.Order.{Order}
-use Rattle.decimals.specs.declared.Order.TheVariants.{Less, Equal, Greater}
+use Rattle.std.specs.Cmp.Lexicographic.{slice_cmp}
+use Rattle.std.specs.List.{range_with_len}
+use Rattle.std.specs.Fn.{Called}
+use Rattle.std.specs.Iterator.Adapters.{map_source, map_callee}
+use Rattle.std.specs.declared.iter.Map.{Map}
+use Rattle.std.specs.declared.ops.Range.{Range}
+use Rattle.std.proofs.iter.Yields.{nat_range_steps}
+use Rattle.std.proofs.lemmas.Iterator.{YieldsList, maps, YieldsList-from_range, YieldsList-from_map}
+use denote.Param.Members.{Mut}
+use Rattle.std.specs.Ordering.{nat_cmp, ordering_then}
+use Rattle.std.specs.declared.cmp.Ordering.{Ordering}
+use Rattle.std.specs.declared.cmp.Ordering.TheVariants.{Less, Equal, Greater}
 use Rattle.store.specs.declared.Limits.{Limits}
 use Rattle.store.specs.declared.Head.{Head}
 use Rattle.store.specs.declared.Record.{Record}
@@ -24,8 +30,9 @@ use Rattle.store.specs.Records.{record_in, record_at}
 use Rattle.store.specs.Heads.{head_at}
 use Rattle.store.specs.Tables.{is_join}
 use Rattle.finding.specs.KeyOrder.{key_order}
-use Rattle.finding.specs.KeyOrderLaws.{order_append, order_equal}
-use Rattle.finding.specs.Keys.{first_of, head_key, key_of, item_at, items_from, items_of, key_at, candidate_head, Run, Inside}
+use Rattle.finding.specs.KeyOrderLaws.{then_assoc, then_end, order_append}
+use Rattle.finding.proofs.ItemLaws.{range_table}
+use Rattle.finding.specs.Keys.{first_of, head_key, key_of, item_at, items_of, key_at, candidate_head}
 
 -- the first four bytes as one number
 first_word : (b : List ℕ) (at : ℕ) → word 4 b at ≡ first_of (record_in b at)
@@ -36,11 +43,6 @@ first_word b at =
     let t = rw two at (word_split 1 2 b (at + 1)) in
     let s = rw three at (word_split 1 1 b (at + 2)) in
     omega arith
-
--- and of bytes its lowest is the kind
-first_kind : (b : List ℕ) → Bytes b → (at from : ℕ) → word 4 b at ≡ word 4 b from → word 1 b at ≡ word 1 b from
-first_kind b y at from e =
-    omega (arith, e, word_split 1 3 b at, word_split 1 3 b from, word_lt 1 b at y, word_lt 1 b from y)
 
 key_head : (limits : Limits) (b : List ℕ) (p : ℕ)
     → key_at limits b p ≡ head_key (head_at limits b p) ++ items_of limits b (record_at limits b p)
@@ -63,77 +65,48 @@ candidate_key_lem content items n ek e = rw (ek, e)
 
 -- ---- runs
 
--- what the code takes for the run of part p is its run
-pub record RunOf (limits : Limits) (b : List ℕ) (p : ℕ) (join : Bool) (from n : ℕ) : Type 0 where
-  pub sort : join ≡ is_join (record_at limits b p)
-  pub first : from ≡ (record_at limits b p).start
-  pub long : n ≡ (record_at limits b p).length
-
-module _ {limits : Limits} {b : List ℕ} {p : ℕ} {join : Bool} {from n : ℕ} (r : RunOf limits b p join from n) where
-  pub run_inside : Inside limits b p → Run join limits b from n
-  run_inside i = rw (r.sort, r.first, r.long) i.run
-
-  pub run_items : items_from join limits b from n ≡ items_of limits b (record_at limits b p)
-  run_items = rw (r.sort, r.first, r.long)
+-- going over the places that a part's head tells of, each place read by a call, gives the part's items
+pub run_yields : {F : Type 0} (g : Mut F (ℕ × Unit {0}) ℕ) (limits : Limits) (b : List ℕ) (p : ℕ) {h : Head} → h ≡ head_at limits b p
+    → {s : Map (Range ℕ) F} {f : F} → map_source s ≡ record { start = h.start; end = h.start + h.length } → map_callee s ≡ f
+    → ((k : ℕ) (r : ℕ) (q : F) → Called g f (k, tt) r q → (q ≡ f) × (r ≡ item_at (ltb h.kind 2) limits b k))
+    → YieldsList (maps nat_range_steps g) (λ (r : ℕ). r) s (items_of limits b (record_at limits b p))
+run_yields g limits b p {h} read source callee reads =
+    let items : map (item_at (ltb h.kind 2) limits b) (range_with_len h.start h.length) ≡ items_of limits b (record_at limits b p)
+    = range_table (item_at (ltb h.kind 2) limits b) h.length h.start ∙ rw read in
+    rw items at
+    (YieldsList-from_map g (item_at (ltb h.kind 2) limits b)
+    (YieldsList-from_range h.start (h.start + h.length) h.length source (omega arith)) callee reads)
 
 -- ---- part p against a key whose head is k
 
--- h is p's head as it was read, and o how the two heads compare
-pub record Against (limits : Limits) (b : List ℕ) (p : ℕ) (h k : Head) (o : Order) : Type 0 where
-  pub read : h ≡ head_at limits b p
-  pub order : o ≡ key_order (head_key h) (head_key k)
+-- heads are compared field by field
+pub heads_order : (h k : Head)
+    → ordering_then (ordering_then (nat_cmp h.first k.first) (nat_cmp h.number k.number)) (nat_cmp h.length k.length)
+    ≡ key_order (head_key h) (head_key k)
+unfolding key_order
+heads_order h k =
+    then_assoc (nat_cmp h.first k.first) (nat_cmp h.number k.number) (nat_cmp h.length k.length)
+    ∙ ap (λ (o : Ordering). ordering_then (nat_cmp h.first k.first) (ordering_then (nat_cmp h.number k.number) o))
+    (sym (then_end (nat_cmp h.length k.length)))
 
--- what two reads and their comparison tell
-pub against : {limits : Limits} {b : List ℕ} {p : ℕ} {h k : Head} {o : Order} → h ≡ head_at limits b p
-    → o ≡ key_order (head_key h) (head_key k) → Against limits b p h k o
-against read order = record { read = read; order = order }
+module _ (limits : Limits) (b : List ℕ) (p : ℕ) {h : Head} (k : Head) {o : Ordering} (read : h ≡ head_at limits b p)
+    (order : o ≡ key_order (head_key h) (head_key k)) (others : List ℕ) where
+  -- what the heads leave open the items settle
+  whole : key_order (key_at limits b p) (head_key k ++ others)
+      ≡ ordering_then o (key_order (items_of limits b (record_at limits b p)) others)
+  whole =
+      rw (part_key limits b p read, order)
+      (order_append (head_key h) (head_key k) (items_of limits b (record_at limits b p)) others refl)
 
-module _ {limits : Limits} {b : List ℕ} {p : ℕ} {h k : Head} {o : Order} (w : Against limits b p h k o) where
-  heads_same : o ≡ Equal → head_key h ≡ head_key k
-  heads_same e = order_equal (head_key h) (head_key k) (sym w.order ∙ e)
+  pub heads_settle : o ≢ Equal → o ≡ key_order (key_at limits b p) (head_key k ++ others)
+  heads_settle ne = sym (whole ∙ decided o _ ne)
+    where
+      decided : (o r : Ordering) → o ≢ Equal → ordering_then o r ≡ o
+      decided Less r ne = refl
+      decided Equal r ne = absurd (ne refl)
+      decided Greater r ne = refl
 
-  pub own_run : RunOf limits b p (ltb h.kind 2) h.start h.length
-  own_run = rw w.read (record { sort = refl; first = refl; long = refl })
-
-  -- the run of a part q that has the same head
-  pub other_run : o ≡ Equal → Bytes b → (q : ℕ) → k ≡ head_at limits b q → RunOf limits b q (ltb h.kind 2) k.start h.length
-  other_run same y q e =
-      let heads = heads_same same in
-      let firsts : h.first ≡ k.first = cc in
-      let lengths : h.length ≡ k.length = cc in
-      let kinds : word 1 b (parts_at limits + 24 * p) ≡ word 1 b (parts_at limits + 24 * q)
-      = first_kind b y (parts_at limits + 24 * p) (parts_at limits + 24 * q)
-      (sym (ap (λ (x : Head). x.first) w.read) ∙ firsts ∙ ap (λ (x : Head). x.first) e) in
-      record {
-        sort = ap (λ (x : ℕ). ltb x 2) (ap (λ (x : Head). x.kind) w.read ∙ kinds);
-        first = ap (λ (x : Head). x.start) e;
-        long = lengths ∙ ap (λ (x : Head). x.length) e;
-      }
-
-  -- p's own run, as long as a candidate of n items that has the same head
-  pub counted_run : o ≡ Equal → (content : Record) (n : ℕ) → k ≡ candidate_head content n → RunOf limits b p (ltb h.kind 2) h.start n
-  counted_run same content n e =
-      let heads = heads_same same in
-      let lengths : h.length ≡ k.length = cc in
-      record {
-        sort = own_run.sort;
-        first = own_run.first;
-        long = sym (lengths ∙ ap (λ (x : Head). x.length) e) ∙ own_run.long;
-      }
-
-  module _ {other : List ℕ} (items : List ℕ) (split : other ≡ head_key k ++ items) where
-    -- what the heads leave open the items settle
-    whole : key_order (key_at limits b p) other ≡ then_of o (key_order (items_of limits b (record_at limits b p)) items)
-    whole =
-        rw (part_key limits b p w.read, split, w.order)
-        (order_append (head_key h) (head_key k) (items_of limits b (record_at limits b p)) items refl)
-
-    pub settled_less : o ≡ Less → Less ≡ key_order (key_at limits b p) other
-    settled_less e = sym (whole ∙ rw e)
-
-    pub settled_greater : o ≡ Greater → Greater ≡ key_order (key_at limits b p) other
-    settled_greater e = sym (whole ∙ rw e)
-
-    pub settled_equal : o ≡ Equal → {join : Bool} {from n : ℕ} {r : Order} → RunOf limits b p join from n
-        → r ≡ key_order (items_from join limits b from n) items → r ≡ key_order (key_at limits b p) other
-    settled_equal e u f = f ∙ ap (λ (x : List ℕ). key_order x items) (run_items u) ∙ sym (whole ∙ rw e)
+  pub items_settle : o ≡ Equal → {r : Ordering} → r ≡ slice_cmp nat_cmp (items_of limits b (record_at limits b p)) others
+      → r ≡ key_order (key_at limits b p) (head_key k ++ others)
+  unfolding key_order
+  items_settle e f = f ∙ sym (whole ∙ rw e)

@@ -1,3 +1,4 @@
 pub mod HeadLaws
 pub mod ItemLaws
 pub mod MarkLaws
+pub mod SearchLaws

@@ -8,10 +8,11 @@ use borrow.Author.Tests.{ltb-true, lt-ltb, le-ltb}
 use lib.Dec.{ltb}
 use Rattle.lists.specs.AndLaws.{and_left, and_first, and_second, and_both}
 use Rattle.lists.specs.Below.{all_below}
-use Rattle.lists.specs.BelowLaws.{below_more, below_each, below_broken}
+use Rattle.lists.specs.BelowLaws.{below_none, below_more, below_each, below_broken}
 use Rattle.store.specs.declared.Limits.{Limits}
 use Rattle.store.specs.Records.{entry_at}
-use Rattle.finding.specs.KeyOrder.{key_order, is_less}
+use Rattle.std.specs.Ordering.{is_lt}
+use Rattle.finding.specs.KeyOrder.{key_order}
 use Rattle.finding.specs.KeyOrderLaws.{Compared, compared, below, same, above}
 use Rattle.finding.specs.Keys.{key_at}
 use Rattle.finding.specs.Ascent.{rises_b, entry_b, ascends_b, PartsInside, Neighbours}
@@ -22,11 +23,11 @@ module _ (limits : Limits) (b : List ℕ) where
   rises_first k e = rw e
 
   pub rises_after : (k : ℕ) → 0 < k
-      → is_less (key_order (key_at limits b (entry_at limits b (k - 1))) (key_at limits b (entry_at limits b k))) ≡ rises_b limits b k
+      → is_lt (key_order (key_at limits b (entry_at limits b (k - 1))) (key_at limits b (entry_at limits b k))) ≡ rises_b limits b k
   unfolding rises_b
   rises_after k l =
       let e : k ≡ suc (k - 1) = omega arith in
-      ap (λ (j : ℕ). is_less (key_order (key_at limits b (entry_at limits b (k - 1))) (key_at limits b (entry_at limits b j)))) e
+      ap (λ (j : ℕ). is_lt (key_order (key_at limits b (entry_at limits b (k - 1))) (key_at limits b (entry_at limits b j)))) e
       ∙ ap (rises_b limits b) (let f : suc (k - 1) ≡ k = omega arith in f)
 
   module _ (n k : ℕ) (l : k < n) where
@@ -56,3 +57,6 @@ module _ (limits : Limits) (b : List ℕ) where
   pub mark_whole : (n k : ℕ) → k ≤ n → n ≤ k → all_below (entry_b limits b n) k ≡ true → true ≡ ascends_b limits b n
   unfolding ascends_b
   mark_whole n k l m h = let e : n ≡ k = omega arith in rw (ap (all_below (entry_b limits b n)) e ∙ h)
+
+-- what the loop's goals close by
+pub ruleset marks = (below_none, mark_past, mark_falls, mark_more, mark_whole)

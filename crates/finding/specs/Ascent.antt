@@ -4,17 +4,18 @@
 use Rattle.std.specs.Prelude.{◌≡◌, Bool, true, List, ℕ, zero, suc, ◌+◌, ◌≤◌, ◌<◌, ltb}
 use Rattle.lists.specs.And.{◌and◌}
 use Rattle.lists.specs.Below.{all_below}
-use Rattle.decimals.specs.declared.Order.TheVariants.{Less}
+use Rattle.std.specs.declared.cmp.Ordering.TheVariants.{Less}
 use Rattle.store.specs.declared.Limits.{Limits}
 use Rattle.store.specs.Layout.{Laid}
 use Rattle.store.specs.Records.{entry_at}
-use Rattle.finding.specs.KeyOrder.{key_order, is_less}
+use Rattle.std.specs.Ordering.{is_lt}
+use Rattle.finding.specs.KeyOrder.{key_order}
 use Rattle.finding.specs.Keys.{key_at, Inside}
 
 -- the part that entry k names holds more than the one that the entry before it names
 unfoldable pub rises_b : Limits → List ℕ → ℕ → Bool
 rises_b limits b zero = true
-rises_b limits b (suc k) = is_less (key_order (key_at limits b (entry_at limits b k)) (key_at limits b (entry_at limits b (suc k))))
+rises_b limits b (suc k) = is_lt (key_order (key_at limits b (entry_at limits b k)) (key_at limits b (entry_at limits b (suc k))))
 
 abbrev pub entry_b : Limits → List ℕ → ℕ → ℕ → Bool
 entry_b limits b n k = ltb (entry_at limits b k) n and rises_b limits b k

@@ -20,17 +20,18 @@ use Rattle.lists.proofs.PlacesLaws.{holds, index_lt, get_or_index}
 use Rattle.lists.proofs.PigeonLaws.{every_number}
 use Rattle.lists.specs.Tabulate.{tabulate}
 use Rattle.lists.proofs.TabulateLaws.{length_tabulate, get_or_tabulate, tabulate_all, tabulate_pairwise}
-use Rattle.decimals.specs.declared.Order.{Order}
-use Rattle.decimals.specs.declared.Order.TheVariants.{Less, Equal, Greater}
+use Rattle.std.specs.declared.cmp.Ordering.{Ordering}
+use Rattle.std.specs.declared.cmp.Ordering.TheVariants.{Less, Equal, Greater}
 use Rattle.store.specs.declared.Limits.{Limits}
 use Rattle.store.specs.Records.{entry_at}
-use Rattle.finding.specs.KeyOrder.{key_order, is_less}
+use Rattle.std.specs.Ordering.{is_lt}
+use Rattle.finding.specs.KeyOrder.{key_order}
 use Rattle.finding.specs.KeyOrderLaws.{Compared, compared, below, same, above, order_trans, order_apart}
 use Rattle.finding.specs.Ascent.{rises_b, entry_b, ascends_b, Rising, Ascends}
 
 -- ---- the test and the facts
 
-less_only : (o : Order) → is_less o ≡ true → o ≡ Less
+less_only : (o : Ordering) → is_lt o ≡ true → o ≡ Less
 less_only Less e = refl
 less_only Equal e = absurd (true≢false (sym e))
 less_only Greater e = absurd (true≢false (sym e))
@@ -55,7 +56,7 @@ module _ (limits : Limits) (b : List ℕ) (n : ℕ) where
   rise : Ascends limits b n → (k : ℕ) → k < n → rises_b limits b k ≡ true
   unfolding rises_b
   rise a zero l = refl
-  rise a (suc k) l = let e : k + 1 ≡ suc k = add-one k in ap is_less (rw e at (a.steps k (rw e l)))
+  rise a (suc k) l = let e : k + 1 ≡ suc k = add-one k in ap is_lt (rw e at (a.steps k (rw e l)))
 
   tested : Ascends limits b n → ascends_b limits b n ≡ true
   unfolding ascends_b

@@ -19,9 +19,9 @@ use Rattle.lists.specs.Sift.{rank}
 use Rattle.lists.proofs.SiftLaws.{rank_lt, rank_onto}
 use Rattle.lists.specs.Tabulate.{tabulate}
 use Rattle.lists.proofs.TabulateLaws.{tabulate_all, tabulate_any, all_tabulate, tabulate_pairwise, pairwise_tabulate}
-use Rattle.decimals.specs.Order.{then_of}
-use Rattle.decimals.specs.declared.Order.{Order}
-use Rattle.decimals.specs.declared.Order.TheVariants.{Less}
+use Rattle.std.specs.Ordering.{ordering_then}
+use Rattle.std.specs.declared.cmp.Ordering.{Ordering}
+use Rattle.std.specs.declared.cmp.Ordering.TheVariants.{Less}
 use Rattle.store.specs.declared.Limits.{Limits}
 use Rattle.store.specs.declared.Record.{Record}
 use Rattle.store.specs.Layout.{parts_at}
@@ -29,7 +29,8 @@ use Rattle.store.specs.Records.{record_at, entry_at}
 use Rattle.store.specs.Tables.{is_join}
 use Rattle.store.specs.Records.{RecordFits}
 use Rattle.store.proofs.RecordLaws.{record_fits}
-use Rattle.finding.specs.KeyOrder.{number_order, key_order}
+use Rattle.std.specs.Ordering.{nat_cmp}
+use Rattle.finding.specs.KeyOrder.{key_order}
 use Rattle.finding.specs.KeyOrderLaws.{Compared, compared, below, same, above, RisesOn}
 use Rattle.finding.specs.KeyOrderLaws.{then_less, then_greater, order_apart, order_map}
 use Rattle.finding.specs.Keys.{first_of, key_of, items_of, key_at}
@@ -121,8 +122,8 @@ moved_length false to items = refl
 
 key_order_lem : (r : Record) (items : List ℕ) (t : Record) (others : List ℕ)
     → key_order (key_of r items) (key_of t others)
-    ≡ then_of (number_order (first_of r) (first_of t))
-    (then_of (number_order r.number t.number) (then_of (number_order (length items) (length others)) (key_order items others)))
+    ≡ ordering_then (nat_cmp (first_of r) (first_of t))
+    (ordering_then (nat_cmp r.number t.number) (ordering_then (nat_cmp (length items) (length others)) (key_order items others)))
 unfolding key_of key_order
 key_order_lem r items t others = refl
 
@@ -141,20 +142,20 @@ module _ (K : ℕ → Type 0) (to : ℕ → ℕ) (up : RisesOn K to) where
       ∙ go (compared (first_of r) (first_of t))
       ∙ sym (key_order_lem r items t others)
     where
-      rest : List ℕ → List ℕ → Order
-      rest l m = then_of (number_order r.number t.number) (then_of (number_order (length l) (length m)) (key_order l m))
+      rest : List ℕ → List ℕ → Ordering
+      rest l m = ordering_then (nat_cmp r.number t.number) (ordering_then (nat_cmp (length l) (length m)) (key_order l m))
 
       go : Compared (first_of r) (first_of t)
-          → then_of (number_order (first_of r) (first_of t)) (rest (moved_items (is_join r) to items) (moved_items (is_join t) to others))
-          ≡ then_of (number_order (first_of r) (first_of t)) (rest items others)
+          → ordering_then (nat_cmp (first_of r) (first_of t)) (rest (moved_items (is_join r) to items) (moved_items (is_join t) to others))
+          ≡ ordering_then (nat_cmp (first_of r) (first_of t)) (rest items others)
       go (below l) = then_less (first_of r) (first_of t) _ l ∙ sym (then_less (first_of r) (first_of t) _ l)
       go (above l) = then_greater (first_of r) (first_of t) _ l ∙ sym (then_greater (first_of r) (first_of t) _ l)
       go (same e) =
           let kinds : r.kind ≡ t.kind = omega (arith, e, f.kind, g.kind) in
           let sorts : is_join t ≡ is_join r = ap (λ (x : ℕ). ltb x 2) (sym kinds) in
-          ap (then_of (number_order (first_of r) (first_of t)))
+          ap (ordering_then (nat_cmp (first_of r) (first_of t)))
           (rw (sorts, moved_length (is_join r) to items, moved_length (is_join r) to others)
-          (ap (λ (o : Order). then_of (number_order r.number t.number) (then_of (number_order (length items) (length others)) o))
+          (ap (λ (o : Ordering). ordering_then (nat_cmp r.number t.number) (ordering_then (nat_cmp (length items) (length others)) o))
           (items_order (is_join r) items others a (λ h. b (sorts ∙ h)))))
 
 -- ---- the table that is left

@@ -2,11 +2,11 @@
 -- one right answer only.
 -- Assumes nothing.
 use Rattle.std.specs.Prelude.{◌≡◌, List, ℕ, ◌≤◌, ◌<◌}
-use Rattle.decimals.specs.declared.Order.TheVariants.{Less, Greater}
+use Rattle.std.specs.declared.cmp.Ordering.TheVariants.{Less, Greater}
 use Rattle.store.specs.declared.Limits.{Limits}
 use Rattle.store.specs.Records.{part_count, entry_at}
-use Rattle.finding.specs.declared.Found.{Found}
-use Rattle.finding.specs.declared.Found.TheVariants.{At, Place}
+use Rattle.std.specs.declared.result.Result.{Result}
+use Rattle.std.specs.declared.result.Result.TheVariants.{Ok, Err}
 use Rattle.finding.specs.KeyOrder.{key_order}
 use Rattle.finding.specs.Keys.{key_at}
 use Rattle.finding.specs.Ascent.{Ascends, PartsInside}
@@ -17,12 +17,12 @@ pub record Placed (key : ℕ → List ℕ) (entry : ℕ → ℕ) (n : ℕ) (cand
   pub before : (i : ℕ) → i < k → key_order (key (entry i)) candidate ≡ Less
   pub after : (i : ℕ) → k ≤ i → i < n → key_order (key (entry i)) candidate ≡ Greater
 
-unfoldable pub Right : (ℕ → List ℕ) → (ℕ → ℕ) → ℕ → List ℕ → Found → Type 0
-Right key entry n candidate (At p) = (p < n) × (key p ≡ candidate)
-Right key entry n candidate (Place k) = Placed key entry n candidate k
+unfoldable pub Right : (ℕ → List ℕ) → (ℕ → ℕ) → ℕ → List ℕ → Result ℕ ℕ → Type 0
+Right key entry n candidate (Ok p) = (p < n) × (key p ≡ candidate)
+Right key entry n candidate (Err k) = Placed key entry n candidate k
 
 -- the same of a book, with all its parts
-abbrev pub FoundRight : Limits → List ℕ → List ℕ → Found → Type 0
+abbrev pub FoundRight : Limits → List ℕ → List ℕ → Result ℕ ℕ → Type 0
 FoundRight limits b candidate r = Right (key_at limits b) (entry_at limits b) (part_count b) candidate r
 
 -- what looking up asks of a book

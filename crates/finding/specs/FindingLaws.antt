@@ -8,11 +8,10 @@
 use Rattle.std.specs.Prelude.{◌≡◌, List, ◌↔◌, ℕ, ◌+◌, ◌≤◌, ◌<◌}
 use Rattle.std.proofs.Math.Path.{sym, ap}
 use Rattle.std.proofs.Common.{◌∙◌, arith}
-use Rattle.decimals.proofs.OrderLaws.{impossible}
-use Rattle.decimals.specs.declared.Order.{Order}
-use Rattle.decimals.specs.declared.Order.TheVariants.{Less, Equal, Greater}
-use Rattle.finding.specs.declared.Found.{Found}
-use Rattle.finding.specs.declared.Found.TheVariants.{At, Place}
+use Rattle.std.specs.declared.cmp.Ordering.{Ordering}
+use Rattle.std.specs.declared.cmp.Ordering.TheVariants.{Less, Equal, Greater}
+use Rattle.std.specs.declared.result.Result.{Result}
+use Rattle.std.specs.declared.result.Result.TheVariants.{Ok, Err}
 use Rattle.finding.specs.KeyOrder.{key_order}
 use Rattle.finding.specs.KeyOrderLaws.{Compared, compared, below, same, above}
 use Rattle.finding.specs.KeyOrderLaws.{order_same, order_equal, order_flip, order_flop, order_trans}
@@ -32,15 +31,15 @@ between_start key entry n candidate =
     record { ends = omega arith; most = omega arith; before = λ i l. absurd (omega arith); after = λ i l h. absurd (omega arith) }
 
 pub between_end : {key : ℕ → List ℕ} {entry : ℕ → ℕ} {n : ℕ} {candidate : List ℕ} {low high : ℕ}
-    → Between key entry n candidate low high → high ≤ low → Right key entry n candidate (Place low)
+    → Between key entry n candidate low high → high ≤ low → Right key entry n candidate (Err low)
 unfolding Right
 between_end w l = record { most = omega (arith, w.most, w.ends); before = w.before; after = λ i h b. w.after i (omega arith) b }
 
 module _ {key : ℕ → List ℕ} {entry : ℕ → ℕ} {n : ℕ} (r : Rising key entry n) (candidate : List ℕ) where
   -- o is how the part that entry `middle` names compares with the candidate
   module _ {low high : ℕ} (w : Between key entry n candidate low high) (middle : ℕ) (l : low ≤ middle) (h : middle < high)
-      {o : Order} (e : o ≡ key_order (key (entry middle)) candidate) where
-    pub middle_equal : o ≡ Equal → Right key entry n candidate (At (entry middle))
+      {o : Ordering} (e : o ≡ key_order (key (entry middle)) candidate) where
+    pub middle_equal : o ≡ Equal → Right key entry n candidate (Ok (entry middle))
     unfolding Right
     middle_equal f = (r.entries middle (omega (arith, w.most)), order_equal _ _ (sym e ∙ f))
 
@@ -71,26 +70,26 @@ module _ {key : ℕ → List ℕ} {entry : ℕ → ℕ} {n : ℕ} (r : Rising ke
       equal = rw (a.there, e) (order_same candidate)
 
       go : Compared a.place k → ⊥
-      go (below h) = impossible (cc (equal, w.before a.place h))
-      go (same h) = impossible (cc (equal, w.after a.place (omega arith) a.inside))
-      go (above h) = impossible (cc (equal, w.after a.place (omega arith) a.inside))
+      go (below h) = absurd (cc (equal, w.before a.place h))
+      go (same h) = absurd (cc (equal, w.after a.place (omega arith) a.inside))
+      go (above h) = absurd (cc (equal, w.after a.place (omega arith) a.inside))
 
-  pub right_at : (t : Found) → Right key entry n candidate t → (p : ℕ) → (t ≡ At p) ↔ ((p < n) × (key p ≡ candidate))
+  pub right_at : (t : Result ℕ ℕ) → Right key entry n candidate t → (p : ℕ) → (t ≡ Ok p) ↔ ((p < n) × (key p ≡ candidate))
   unfolding Right
-  right_at (At q) w p = (λ e. let z : q ≡ p = cc in rw z at w, λ h. ap At (rising_distinct r q p w.0 h.0 (w.1 ∙ sym h.1)))
-  right_at (Place k) w p = (λ e. impossible (cc), λ h. absurd (placed_none k w p h.0 h.1))
+  right_at (Ok q) w p = (λ e. let z : q ≡ p = cc in rw z at w, λ h. ap Ok (rising_distinct r q p w.0 h.0 (w.1 ∙ sym h.1)))
+  right_at (Err k) w p = (λ e. absurd (cc), λ h. absurd (placed_none k w p h.0 h.1))
 
   placed_once : (j k : ℕ) → Placed key entry n candidate j → Placed key entry n candidate k → j ≡ k
   placed_once j k a b = go (compared j k)
     where
       go : Compared j k → j ≡ k
-      go (below h) = impossible (cc (b.before j h, a.after j (omega arith) (omega (arith, b.most))))
+      go (below h) = absurd (cc (b.before j h, a.after j (omega arith) (omega (arith, b.most))))
       go (same h) = h
-      go (above h) = impossible (cc (a.before k h, b.after k (omega arith) (omega (arith, a.most))))
+      go (above h) = absurd (cc (a.before k h, b.after k (omega arith) (omega (arith, a.most))))
 
-  pub right_once : (t u : Found) → Right key entry n candidate t → Right key entry n candidate u → t ≡ u
+  pub right_once : (t u : Result ℕ ℕ) → Right key entry n candidate t → Right key entry n candidate u → t ≡ u
   unfolding Right
-  right_once (At p) (At q) a b = ap At (rising_distinct r p q a.0 b.0 (a.1 ∙ sym b.1))
-  right_once (At p) (Place k) a b = absurd (placed_none k b p a.0 a.1)
-  right_once (Place k) (At p) a b = absurd (placed_none k a p b.0 b.1)
-  right_once (Place j) (Place k) a b = ap Place (placed_once j k a b)
+  right_once (Ok p) (Ok q) a b = ap Ok (rising_distinct r p q a.0 b.0 (a.1 ∙ sym b.1))
+  right_once (Ok p) (Err k) a b = absurd (placed_none k b p a.0 a.1)
+  right_once (Err k) (Ok p) a b = absurd (placed_none k a p b.0 b.1)
+  right_once (Err j) (Err k) a b = ap Err (placed_once j k a b)

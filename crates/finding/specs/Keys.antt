@@ -1,11 +1,11 @@
 -- WHAT A PART HOLDS, AS A KEY: the first four bytes of its record as one number, its number, how many items it has, then the items. The
 -- items of an And or an Or are its children's numbers, those of a predicate its list's elements, each as its two's complement.
 -- Assumes nothing.
-use Rattle.std.specs.Prelude.{Bool, true, false, List, [], ◌∷◌, map, ℕ, ◌+◌, ◌*◌, ◌≤◌, ◌<◌, ℤ, length}
+use Rattle.std.specs.Prelude.{◌≡◌, Bool, true, false, List, [], ◌∷◌, ◌++◌, map, ℕ, ◌+◌, ◌*◌, ◌≤◌, ◌<◌, ℤ, length}
 use Rattle.std.specs.Int.{w64}
 use Rattle.std.proofs.Common.{of_z}
 use Rattle.lists.specs.Tabulate.{tabulate}
-use Rattle.decimals.specs.declared.Order.{Order}
+use Rattle.std.specs.declared.cmp.Ordering.{Ordering}
 use Rattle.store.specs.declared.Limits.{Limits}
 use Rattle.store.specs.declared.Record.{Record}
 use Rattle.store.specs.declared.Head.{Head}
@@ -39,10 +39,6 @@ item_limit false limits = limits.elements
 abbrev pub items_from : Bool → Limits → List ℕ → ℕ → ℕ → List ℕ
 items_from join limits b start n = tabulate n (λ k. item_at join limits b (start + k))
 
--- how n items from start on compare with others
-abbrev pub run_order : Bool → Limits → List ℕ → ℕ → ℕ → List ℕ → Order
-run_order join limits b start n others = key_order (items_from join limits b start n) others
-
 abbrev pub items_of : Limits → List ℕ → Record → List ℕ
 items_of limits b r = items_from (is_join r) limits b r.start r.length
 
@@ -50,8 +46,16 @@ unfoldable pub key_at : Limits → List ℕ → ℕ → List ℕ
 key_at limits b p = key_of (record_at limits b p) (items_of limits b (record_at limits b p))
 
 -- how part p compares with a key
-abbrev pub part_order : Limits → List ℕ → ℕ → List ℕ → Order
+abbrev pub part_order : Limits → List ℕ → ℕ → List ℕ → Ordering
 part_order limits b p key = key_order (key_at limits b p) key
+
+-- and how with a head and the items after it
+abbrev pub head_order : Limits → List ℕ → ℕ → Head → List ℕ → Ordering
+head_order limits b p head items = part_order limits b p (head_key head ++ items)
+
+-- what `says` may answer of a part is how the part compares with a key
+abbrev pub Compares : Limits → List ℕ → List ℕ → (ℕ → Ordering → Type 0) → Type 0
+Compares limits b key says = (p : ℕ) (o : Ordering) → says p o → o ≡ part_order limits b p key
 
 -- n items from start on lie within the limits
 pub record Run (join : Bool) (limits : Limits) (b : List ℕ) (start n : ℕ) : Type 0 where
@@ -76,8 +80,3 @@ predicate_key content elements = key_of content (words_of elements)
 
 abbrev pub join_key : Record → List ℕ → List ℕ
 join_key content children = key_of content children
-
--- either of the two: an operator's (true) or a predicate's
-abbrev pub candidate_key : Bool → Record → List ℤ → List ℕ → List ℕ
-candidate_key true content elements children = join_key content children
-candidate_key false content elements children = predicate_key content elements

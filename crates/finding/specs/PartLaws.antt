@@ -28,8 +28,7 @@ use Rattle.store.specs.Records.{record_at, element_word, part_count}
 use Rattle.store.specs.Tables.{is_join, operator_of, predicate_of, part_if, part_at, parts_of}
 use Rattle.store.specs.Records.{RecordFits}
 use Rattle.store.proofs.RecordLaws.{record_fits}
-use Rattle.finding.specs.declared.Found.TheVariants.{At, Place}
-use Rattle.decimals.proofs.OrderLaws.{impossible}
+use Rattle.std.specs.declared.result.Result.TheVariants.{Ok, Err}
 use Rattle.finding.specs.Keys.{first_of, key_of, items_from, items_of, key_at, predicate_key, join_key}
 use Rattle.finding.specs.KeyLaws.{SameFields, same_fields}
 use Rattle.finding.specs.Bare.{Unused, Bare}
@@ -93,8 +92,8 @@ key_settles r t f g items others e =
 
 same_sort : (join other : Bool) (r t : Record) (items others : List ℕ) → part_from join r items ≡ part_from other t others → join ≡ other
 same_sort true true r t items others e = refl
-same_sort true false r t items others e = impossible (cc)
-same_sort false true r t items others e = impossible (cc)
+same_sort true false r t items others e = absurd (cc)
+same_sort false true r t items others e = absurd (cc)
 same_sort false false r t items others e = refl
 
 operators : (k j : ℕ) → k < 2 → j < 2 → operator_of k ≡ operator_of j → k ≡ j
@@ -102,8 +101,8 @@ operators k j hk hj e = go (eqb k 0) refl (eqb j 0) refl e
   where
     go : (s : Bool) → eqb k 0 ≡ s → (t : Bool) → eqb j 0 ≡ t → ◌≡◌ {A = Operator} (cond s And Or) (cond t And Or) → k ≡ j
     go true d true f e = eqb-true k 0 d ∙ sym (eqb-true j 0 f)
-    go true d false f e = impossible (cc)
-    go false d true f e = impossible (cc)
+    go true d false f e = absurd (cc)
+    go false d true f e = absurd (cc)
     go false d false f e = omega (arith, eqb-false k 0 d, eqb-false j 0 f)
 
 word_same : (x y : ℕ) → Word64 x → Word64 y → to_z w64 x ≡ to_z w64 y → x ≡ y
@@ -111,8 +110,8 @@ word_same x y f g e = sym (of_z-to_z w64 x (record { fits = f })) ∙ ap (of_z w
 
 words_same : (l m : List ℕ) → All Word64 l → All Word64 m → map (to_z w64) l ≡ map (to_z w64) m → l ≡ m
 words_same [] [] none none e = refl
-words_same [] (y ∷ m) none h e = impossible (cc)
-words_same (x ∷ l) [] h none e = impossible (cc)
+words_same [] (y ∷ m) none h e = absurd (cc)
+words_same (x ∷ l) [] h none e = absurd (cc)
 words_same (x ∷ l) (y ∷ m) (both f h) (both g k) e =
     let head : to_z w64 x ≡ to_z w64 y = cc in
     let tail : map (to_z w64) l ≡ map (to_z w64) m = cc in
@@ -246,20 +245,20 @@ join_part : (content : Record) (children : List ℕ) → JoinCandidate content
 join_part content children c = ap (λ (j : Bool). part_from j content children) c.sort
 
 module _ (limits : Limits) (b : List ℕ) (y : Bytes b) where
-  found : (t : Record) → RecordFits t → (others : List ℕ) (p : ℕ) → FoundRight limits b (key_of t others) (At p)
+  found : (t : Record) → RecordFits t → (others : List ℕ) (p : ℕ) → FoundRight limits b (key_of t others) (Ok p)
       → (p < part_count b) × (part_at limits b p ≡ part_from (is_join t) t others)
   unfolding Right key_at
   found t f others p w =
       (w.0, part_of limits b p ∙ key_settles (record_at limits b p) t (record_fits b (parts_at limits + 24 * p) y) f _ others w.1)
 
   module _ (content : Record) (elements : List ℤ) (c : PredicateCandidate content elements) where
-    pub found_predicate : (p : ℕ) → FoundRight limits b (predicate_key content elements) (At p)
+    pub found_predicate : (p : ℕ) → FoundRight limits b (predicate_key content elements) (Ok p)
         → (p < part_count b) × (part_at limits b p ≡ alone (predicate_of content elements))
     found_predicate p w =
         let f = found content c.fits (map (of_z w64) elements) p w in
         (f.0, f.1 ∙ predicate_part content elements c)
 
-    pub absent_predicate : Ascends limits b (part_count b) → (k : ℕ) → FoundRight limits b (predicate_key content elements) (Place k)
+    pub absent_predicate : Ascends limits b (part_count b) → (k : ℕ) → FoundRight limits b (predicate_key content elements) (Err k)
         → (p : ℕ) → p < part_count b → part_at limits b p ≡ alone (predicate_of content elements) → ⊥
     unfolding Right
     absent_predicate a k w p l e =
@@ -268,12 +267,12 @@ module _ (limits : Limits) (b : List ℕ) (y : Bytes b) where
         c.fits.number (bits_fit c.each))
 
   module _ (content : Record) (children : List ℕ) (c : JoinCandidate content) where
-    pub found_join : (p : ℕ) → FoundRight limits b (join_key content children) (At p)
+    pub found_join : (p : ℕ) → FoundRight limits b (join_key content children) (Ok p)
         → (p < part_count b) × (part_at limits b p ≡ over (operator_of content.kind) children)
     found_join p w = let f = found content c.fits children p w in (f.0, f.1 ∙ join_part content children c)
 
     pub absent_join : Bare limits b (part_count b) → Ascends limits b (part_count b) → (k : ℕ)
-        → FoundRight limits b (join_key content children) (Place k)
+        → FoundRight limits b (join_key content children) (Err k)
         → (p : ℕ) → p < part_count b → part_at limits b p ≡ over (operator_of content.kind) children → ⊥
     unfolding Right
     absent_join bare a k w p l e =

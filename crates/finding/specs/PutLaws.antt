@@ -1,7 +1,7 @@
 -- The order table after an insert: the new part's number at the place that was found keeps the ascent. Assumes nothing.
 use Rattle.std.specs.Prelude.{◌≡◌, List, ℕ, ◌+◌, ◌-◌, ◌≤◌, ◌<◌}
 use Rattle.std.proofs.Common.{ap, ◌∙◌, arith}
-use Rattle.decimals.specs.declared.Order.TheVariants.{Less}
+use Rattle.std.specs.declared.cmp.Ordering.TheVariants.{Less}
 use Rattle.finding.specs.KeyOrder.{key_order}
 use Rattle.finding.specs.KeyOrderLaws.{Compared, compared, below, same, above, order_flop}
 use Rattle.finding.specs.Ascent.{Rising}

@@ -1,26 +1,21 @@
 // Finding: the order table of a book, which names the parts in strictly ascending order of what they hold. An insert looks a candidate up
 // in it by halving, and that it ascends strictly is the mark that no two parts are the same. specs/Keys.antt says what a part holds,
-// specs/Ascent.antt what the mark is, specs/Finding.antt what looking up answers.
+// specs/Ascent.antt what the mark is, specs/Finding.antt what looking up answers. Bytes and limits are two parameters, for the reason that
+// `store` gives.
 #![tactic(auto)]
 
-ghost use Rattle.std.specs.Prelude.{◌≡◌, ◌+◌, ◌*◌, ◌<◌, length};
-ghost use Rattle.decimals.specs.Order.{then_of};
+ghost use Rattle.std.specs.Prelude.{◌≡◌, ◌<◌, List, ℕ, length, ltb};
+ghost use Rattle.std.specs.Iterator.{AlwaysYields, IsFinite};
 ghost use Rattle.store.specs.Layout.{Laid};
-ghost use Rattle.finding.specs.KeyOrder.{number_order, key_order, is_less};
-ghost use Rattle.finding.specs.Keys.{first_of, head_key, item_at, item_limit, items_from, run_order, Run, key_at, part_order, Inside};
-ghost use Rattle.finding.specs.Keys.{candidate_head, words_of, predicate_key, join_key, candidate_key};
+ghost use Rattle.store.specs.Records.{part_count};
+ghost use Rattle.finding.specs.KeyOrder.{key_order};
+ghost use Rattle.finding.specs.Keys.{first_of, head_key, item_at, item_limit, key_at, part_order, head_order, Inside, Compares};
+ghost use Rattle.finding.specs.Keys.{candidate_head, words_of, predicate_key, join_key};
 ghost use Rattle.finding.specs.Ascent.{rises_b, ascends_b, PartsInside, Neighbours};
 ghost use Rattle.finding.specs.Finding.{FoundRight, Ordered};
 
-use decimals::Order;
-use store::{Head, Limits, Record};
-
-// Where a candidate is: the part that holds it, or the place in the order table where it is to stand.
-#[derive(Clone, Copy)]
-pub enum Found {
-    At(usize),
-    Place(usize),
-}
+use std::cmp::Ordering;
+use store::{Count, Head, Limits, Record};
 
 // ---- heads: all that stands before the items
 
@@ -28,21 +23,7 @@ pub enum Found {
 fn first_of(content: Record) -> u32
     ensures { result ≡ first_of content }
 {
-    let last = (content.tag as u32) + 256 * (content.scale as u32);
-    (content.kind as u32) + 256 * ((content.attribute as u32) + 256 * last)
-}
-
-// How two numbers compare, and `rest` where they are the same.
-fn step(a: u64, b: u64, rest: Order) -> Order
-    ensures { result ≡ then_of (number_order a b) rest }
-{
-    if a < b {
-        return Order::Less;
-    }
-    if b < a {
-        return Order::Greater;
-    }
-    rest
+    u32::from_le_bytes([content.kind, content.attribute, content.tag, content.scale])
 }
 
 // A candidate's head; its items stand elsewhere.
@@ -59,119 +40,60 @@ fn candidate_head(content: Record, length: usize) -> Head
     }
 }
 
-// From the last field to the first, with no way out but one.
-fn compare_heads(a: Head, b: Head) -> Order
+fn compare_heads(a: Head, b: Head) -> Ordering
     ensures { result ≡ key_order (head_key a) (head_key b) }
 {
-    let first = a.first as u64;
-    let other = b.first as u64;
-    let by_length = step(a.length as u64, b.length as u64, Order::Equal);
-    step(first, other, step(a.number, b.number, by_length))
+    (a.first, a.number, a.length).cmp(&(b.first, b.number, b.length))
 }
 
 // ---- items
 
-// A child's number or an element's two's complement.
-fn get_item(bytes: &[u8], limits: Limits, join: bool, k: usize) -> u64
-    requires { Laid limits bytes.now × (k < item_limit join limits) }
-    ensures { result ≡ item_at join limits bytes.now k }
+// An item of a part with this head: a child's number or, of a predicate, an element's two's complement.
+fn get_item(bytes: &[u8], limits: Limits, head: Head, k: usize) -> u64
+    requires { Laid limits bytes.now × (k < item_limit (ltb head.kind 2) limits) }
+    ensures { result ≡ item_at (ltb head.kind 2) limits bytes.now k }
 {
-    if join {
+    if head.kind < 2 {
         return store::get_place(bytes, limits, k) as u64;
     }
     store::get_element(bytes, limits, k)
 }
 
-// How a part's items compare with those of another part, of as many items of the same sort.
-fn compare_runs(
-    bytes: &[u8],
-    limits: Limits,
-    join: bool,
-    start: usize,
-    other: usize,
-    count: usize,
-) -> Order
-    requires { Run join limits bytes.now start count × Run join limits bytes.now other count }
-    ensures { result ≡ run_order join limits bytes.now start count (items_from join limits bytes.now other count) }
-{
-    let mut i: usize = 0;
-    while i < count {
-        let x = get_item(bytes, limits, join, start + i);
-        let y = get_item(bytes, limits, join, other + i);
-        if x < y {
-            return Order::Less;
-        }
-        if y < x {
-            return Order::Greater;
-        }
-        i += 1;
-    }
-    Order::Equal
-}
-
-// How a part's items compare with a list of as many elements.
-fn compare_elements(bytes: &[u8], limits: Limits, join: bool, start: usize, list: &[i64]) -> Order
-    requires { Run join limits bytes.now start (length list.now) }
-    ensures { result ≡ run_order join limits bytes.now start (length list.now) (words_of list.now) }
-{
-    let mut i: usize = 0;
-    while i < list.len() {
-        let x = get_item(bytes, limits, join, start + i);
-        let y = words::unsigned(list[i]);
-        if x < y {
-            return Order::Less;
-        }
-        if y < x {
-            return Order::Greater;
-        }
-        i += 1;
-    }
-    Order::Equal
-}
-
-// How a part's items compare with as many children.
-fn compare_children(
-    bytes: &[u8],
-    limits: Limits,
-    join: bool,
-    start: usize,
-    children: &[u16],
-) -> Order
-    requires { Run join limits bytes.now start (length children.now) }
-    ensures { result ≡ run_order join limits bytes.now start (length children.now) children.now }
-{
-    let mut i: usize = 0;
-    while i < children.len() {
-        let x = get_item(bytes, limits, join, start + i);
-        let y = children[i] as u64;
-        if x < y {
-            return Order::Less;
-        }
-        if y < x {
-            return Order::Greater;
-        }
-        i += 1;
-    }
-    Order::Equal
-}
-
 // ---- parts
 
+// How part p compares with a head and the items after it: the heads decide, or leave it to the items.
+fn compare_part<I: Iterator<Item = u64>>(
+    bytes: &[u8],
+    limits: Limits,
+    p: usize,
+    head: Head,
+    items: I,
+) -> Ordering
+    requires inside { Inside limits bytes.now p }
+    requires can { I.can_next items }
+    requires finite { IsFinite (I.remaining items) }
+    ensures { (others : List ℕ) → AlwaysYields I.next_gives (λ x. x) items others → result ≡ head_order limits bytes.now p head others }
+{
+    let own = store::get_head(bytes, limits, p);
+    match compare_heads(own, head) {
+        Ordering::Equal => (own.start..own.start + own.length)
+            .map(|k| get_item(bytes, limits, own, k))
+            .cmp(items),
+        order => order,
+    }
+}
+
 // How part p compares with part q.
-pub fn compare_parts(bytes: &[u8], limits: Limits, p: usize, q: usize) -> Order
+pub fn compare_parts(bytes: &[u8], limits: Limits, p: usize, q: usize) -> Ordering
     requires { Inside limits bytes.now p × Inside limits bytes.now q }
     ensures { result ≡ part_order limits bytes.now p (key_at limits bytes.now q) }
 {
-    let a = store::get_head(bytes, limits, p);
-    let b = store::get_head(bytes, limits, q);
-    let order = compare_heads(a, b);
-    match order {
-        Order::Less => Order::Less,
-        Order::Equal => compare_runs(bytes, limits, a.kind < 2, a.start, b.start, a.length),
-        Order::Greater => Order::Greater,
-    }
+    let head = store::get_head(bytes, limits, q);
+    let items = (head.start..head.start + head.length).map(|k| get_item(bytes, limits, head, k));
+    compare_part(bytes, limits, p, head, items)
 }
 
+// A predicate's list and an operator's children differ in type and in key: they have a function each, over one comparison.
 // How part p compares with a predicate that need not stand in the book.
 pub fn compare_predicate(
     bytes: &[u8],
@@ -179,18 +101,13 @@ pub fn compare_predicate(
     p: usize,
     content: Record,
     elements: &[i64],
-) -> Order
+) -> Ordering
     requires { Inside limits bytes.now p }
     ensures { result ≡ part_order limits bytes.now p (predicate_key content elements.now) }
 {
-    let a = store::get_head(bytes, limits, p);
-    let b = candidate_head(content, elements.len());
-    let order = compare_heads(a, b);
-    match order {
-        Order::Less => Order::Less,
-        Order::Equal => compare_elements(bytes, limits, a.kind < 2, a.start, elements),
-        Order::Greater => Order::Greater,
-    }
+    let head = candidate_head(content, elements.len());
+    let items = elements.iter().map(|element| element.cast_unsigned());
+    compare_part(bytes, limits, p, head, items)
 }
 
 // How part p compares with an operator over children that need not stand in the book.
@@ -200,52 +117,19 @@ pub fn compare_join(
     p: usize,
     content: Record,
     children: &[u16],
-) -> Order
+) -> Ordering
     requires { Inside limits bytes.now p }
     ensures { result ≡ part_order limits bytes.now p (join_key content children.now) }
 {
-    let a = store::get_head(bytes, limits, p);
-    let b = candidate_head(content, children.len());
-    let order = compare_heads(a, b);
-    match order {
-        Order::Less => Order::Less,
-        Order::Equal => compare_children(bytes, limits, a.kind < 2, a.start, children),
-        Order::Greater => Order::Greater,
-    }
-}
-
-// How part p compares with either of the two.
-fn compare_candidate(
-    bytes: &[u8],
-    limits: Limits,
-    p: usize,
-    content: Record,
-    join: bool,
-    list: &[i64],
-    children: &[u16],
-) -> Order
-    requires { Inside limits bytes.now p }
-    ensures { result ≡ part_order limits bytes.now p (candidate_key join content list.now children.now) }
-{
-    if join {
-        return compare_join(bytes, limits, p, content, children);
-    }
-    compare_predicate(bytes, limits, p, content, list)
+    let head = candidate_head(content, children.len());
+    let items = children.iter().map(|child| *child as u64);
+    compare_part(bytes, limits, p, head, items)
 }
 
 // ---- the order table
 
-fn is_less(order: Order) -> bool
-    ensures { result ≡ is_less order }
-{
-    match order {
-        Order::Less => true,
-        Order::Equal => false,
-        Order::Greater => false,
-    }
-}
-
 // Whether the part that entry k names holds more than the one that the entry before it names.
+#[tactic(auto, using(crate::proofs::MarkLaws::rises_first))]
 fn rises(bytes: &[u8], limits: Limits, k: usize) -> bool
     requires { Neighbours limits bytes.now k }
     ensures { result ≡ rises_b limits bytes.now k }
@@ -255,75 +139,60 @@ fn rises(bytes: &[u8], limits: Limits, k: usize) -> bool
     }
     let p = store::get_entry(bytes, limits, k - 1) as usize;
     let q = store::get_entry(bytes, limits, k) as usize;
-    is_less(compare_parts(bytes, limits, p, q))
+    compare_parts(bytes, limits, p, q).is_lt()
 }
 
 // The mark: the first `count` entries name parts below `count`, each of which holds more than the one before.
+#[tactic(auto, using(crate::proofs::MarkLaws::marks))]
 pub fn order_ascends(bytes: &[u8], limits: Limits, count: usize) -> bool
     requires { PartsInside limits bytes.now count }
     ensures { result ≡ ascends_b limits bytes.now count }
 {
-    let mut k: usize = 0;
-    while k < count {
+    for k in 0..count {
         let p = store::get_entry(bytes, limits, k) as usize;
-        if count <= p {
+        if count <= p || !rises(bytes, limits, k) {
             return false;
         }
-        if !rises(bytes, limits, k) {
-            return false;
-        }
-        k += 1;
     }
     true
 }
 
-// The candidate's part or its place, by halving.
-fn find(
+// The candidate's part or its place, by halving: `compare` says how a part compares with it.
+fn find<F: Fn(usize) -> Ordering>(bytes: &[u8], limits: Limits, compare: F) -> Result<usize, usize>
+    requires ordered { Ordered limits bytes.now }
+    requires callable { (p : ℕ) → Inside limits bytes.now p → F.pre compare p }
+    ensures { (key : List ℕ) → Compares limits bytes.now key (F.post compare) → FoundRight limits bytes.now key result }
+{
+    let count = store::get_count(bytes, Count::Parts);
+    let compare_entry = |k: usize| compare(store::get_entry(bytes, limits, k) as usize);
+    let place = lists::search(count, compare_entry)?;
+    Ok(store::get_entry(bytes, limits, place) as usize)
+}
+
+// A predicate's part or, as an error, the place in the order table where it is to stand.
+pub fn find_predicate(
     bytes: &[u8],
     limits: Limits,
     content: Record,
-    join: bool,
-    list: &[i64],
-    children: &[u16],
-) -> Found
-    requires { Ordered limits bytes.now }
-    ensures { FoundRight limits bytes.now (candidate_key join content list.now children.now) result }
-{
-    let mut low: usize = 0;
-    let mut high = store::part_count(bytes);
-    while low < high {
-        let middle = low + (high - low) / 2;
-        let p = store::get_entry(bytes, limits, middle) as usize;
-        let order = compare_candidate(bytes, limits, p, content, join, list, children);
-        match order {
-            Order::Less => {
-                low = middle + 1;
-                continue;
-            }
-            Order::Equal => return Found::At(p),
-            Order::Greater => {
-                high = middle;
-                continue;
-            }
-        }
-    }
-    Found::Place(low)
-}
-
-// A predicate's part or its place.
-pub fn find_predicate(bytes: &[u8], limits: Limits, content: Record, elements: &[i64]) -> Found
+    elements: &[i64],
+) -> Result<usize, usize>
     requires { Ordered limits bytes.now }
     ensures { FoundRight limits bytes.now (predicate_key content elements.now) result }
 {
-    let none = [0u16; 1];
-    find(bytes, limits, content, false, elements, &none)
+    let compare = |p: usize| compare_predicate(bytes, limits, p, content, elements);
+    find(bytes, limits, compare)
 }
 
-// The part or the place of an operator over children.
-pub fn find_join(bytes: &[u8], limits: Limits, content: Record, children: &[u16]) -> Found
+// The part of an operator over children or, as an error, the place in the order table where it is to stand.
+pub fn find_join(
+    bytes: &[u8],
+    limits: Limits,
+    content: Record,
+    children: &[u16],
+) -> Result<usize, usize>
     requires { Ordered limits bytes.now }
     ensures { FoundRight limits bytes.now (join_key content children.now) result }
 {
-    let none = [0i64; 1];
-    find(bytes, limits, content, true, &none, children)
+    let compare = |p: usize| compare_join(bytes, limits, p, content, children);
+    find(bytes, limits, compare)
 }

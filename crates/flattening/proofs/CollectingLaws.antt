@@ -1,35 +1,29 @@
 -- The cases of `flatten` and `collect` without the code: what a place to flatten has, and what each leaves of what its calls left.
 -- Assumes nothing.
-use mathlib.Core.Path.{◌≡◌, refl, sym, ap, subst⁻¹, ◌∙◌}
-use mathlib.Core.Bool.{Bool, true, false, not, cond}
+use mathlib.Core.Path.{◌≡◌, refl, sym, ap, subst, subst⁻¹, ◌∙◌}
+use mathlib.Core.Bool.{Bool, not}
 use mathlib.Core.List.{List}
 use Prim.Native.Nat.{ℕ, ◌+◌, ◌*◌, ◌<◌, ◌≤◌}
 use native.Mathlib.Omega.{arith}
-use borrow.Author.Tests.{eq-eqb, ne_eqb}
-use lib.Dec.{eqb}
-use lib.ListN.{length, get_or, set}
-use lib.IntN.{ℤ, pos}
+use lib.ListN.{length, set}
+use lib.IntN.{ℤ}
 use Rattle.evaluation.specs.declared.Operator.{Operator}
+use Rattle.evaluation.specs.declared.Operator.TheVariants.{And, Or}
 use Rattle.evaluation.specs.Kleene.{operator_under}
-use Rattle.evaluation.specs.KleeneLaws.{turned_turned}
 use Rattle.ast.specs.Trees.{Tree, Join, Not, Value, entries, Flats, node, kids}
 use Rattle.ast.specs.Flattening.{◌⧺◌, splice, joined, flat, Unlike}
 use Rattle.ast.proofs.FlatteningLaws.{splice_own, splice_unlike}
-use Rattle.sheets.specs.Entries.{natural_of, kind_of}
-use Rattle.sheets.specs.Spells.{joins, negates, stands, shape_of, Spells}
+use Rattle.sheets.specs.Entries.{kind_of}
+use Rattle.sheets.specs.declared.Shape.{Shape}
+use Rattle.sheets.specs.declared.Shape.TheVariants.{Joins, Negates, Stands}
+use Rattle.sheets.specs.Spells.{shape_of, Spells}
 use Rattle.flattening.specs.Codes.{predicate_code, operator_code, codes_under}
 use Rattle.flattening.proofs.CodesLaws.{node_long, kids_most, codes_most, spliced_most}
-use Rattle.flattening.specs.Kinds.{kind_number}
 use Rattle.sheets.specs.SpellsLaws.{spells_size}
-use Rattle.flattening.specs.SpellsLaws.{negates_kind, joins_kind, spells_not, spells_join, spells_value, entries_some}
+use Rattle.flattening.specs.SpellsLaws.{spells_not, spells_join, spells_value, entries_some}
 use Rattle.flattening.specs.Writing.{Ready, Wrote, Flattens, Collects}
 use Rattle.flattening.specs.declared.Written.{Written}
 use Rattle.flattening.proofs.WritingLaws.{wrote_leaf, wrote_both, wrote_node}
-
--- an odd number of Nots, twice, is an even one
-pub under_under : (negate : Bool) (o : Operator) → operator_under negate (operator_under negate o) ≡ o
-under_under false o = refl
-under_under true o = turned_turned o
 
 -- an operator's tree, flattened, and what it brings to its own operator
 module _ (o p : Operator) (negate : Bool) (same : p ≡ operator_under negate o) (t a b : Tree ℕ) (e : t ≡ Join o a b) where
@@ -44,31 +38,59 @@ module _ (o p : Operator) (negate : Bool) (same : p ≡ operator_under negate o)
   splice_join : splice p (flat predicate_code negate t) ≡ children
   splice_join = ap (splice p) flat_join ∙ splice_own p children
 
--- the kind where the code reads it
-pub kind_at : (first : ℕ) (s : List ℤ) (i : ℕ) → natural_of (get_or s (first + 5 * i) (pos 0)) ≡ kind_of first s i
-kind_at first s i = ap (λ (k : ℕ). natural_of (get_or s k (pos 0))) (let e : first + 5 * i ≡ first + 5 * i + 0 = omega arith in e)
-
 -- ---- how far `collect` is from moving on: it hands an entry of another operator to `flatten`, which hands it back with its own
 
-unfoldable pub lag : Operator → Bool → ℕ → ℕ
-lag parent negate kind = cond (eqb kind (kind_number (operator_under negate parent))) 0 2
+abbrev apart : Operator → Operator → ℕ
+apart And And = 0
+apart And Or = 2
+apart Or And = 2
+apart Or Or = 0
 
-module _ (parent : Operator) (negate : Bool) (kind : ℕ) where
-  pub lag_own : kind ≡ kind_number (operator_under negate parent) → lag parent negate kind ≡ 0
-  unfolding lag
-  lag_own e = rw (eq-eqb _ _ e)
+unfoldable pub lag : Operator → Bool → Shape → ℕ
+lag parent negate (Joins o) = apart (operator_under negate o) parent
+lag parent negate Negates = 2
+lag parent negate Stands = 2
 
-  pub lag_other : (kind ≡ kind_number (operator_under negate parent) → ⊥) → lag parent negate kind ≡ 2
-  unfolding lag
-  lag_other n = rw (ne_eqb _ _ n)
+-- an entry that is no node of the operator above it
+abbrev pub Other : Operator → Bool → Shape → Type 0
+Other parent negate (Joins o) = ¬ (parent ≡ operator_under negate o)
+Other parent negate Negates = ⊥
+Other parent negate Stands = Unit {0}
 
-  pub lag_most : lag parent negate kind ≤ 2
+apart_same : (o p : Operator) → o ≡ p → apart o p ≡ 0
+apart_same And And e = refl
+apart_same And Or e = cc
+apart_same Or And e = cc
+apart_same Or Or e = refl
+
+apart_other : (o p : Operator) → ¬ (o ≡ p) → apart o p ≡ 2
+apart_other And And n = absurd (n refl)
+apart_other And Or n = refl
+apart_other Or And n = refl
+apart_other Or Or n = absurd (n refl)
+
+apart_most : (o p : Operator) → apart o p ≤ 2
+apart_most And And = omega arith
+apart_most And Or = omega arith
+apart_most Or And = omega arith
+apart_most Or Or = omega arith
+
+module _ (parent : Operator) (negate : Bool) where
+  pub lag_own : (shape : Shape) (o : Operator) → shape ≡ Joins o → parent ≡ operator_under negate o → lag parent negate shape ≡ 0
   unfolding lag
-  lag_most = go (eqb kind (kind_number (operator_under negate parent)))
-    where
-      go : (b : Bool) → cond b 0 2 ≤ 2
-      go true = omega arith
-      go false = omega arith
+  lag_own shape o e h = ap (lag parent negate) e ∙ apart_same _ _ (sym h)
+
+  pub lag_other : (shape : Shape) → Other parent negate shape → lag parent negate shape ≡ 2
+  unfolding lag
+  lag_other (Joins o) n = apart_other _ _ (λ e. n (sym e))
+  lag_other Negates n = refl
+  lag_other Stands n = refl
+
+  pub lag_most : (shape : Shape) → lag parent negate shape ≤ 2
+  unfolding lag
+  lag_most (Joins o) = apart_most _ _
+  lag_most Negates = omega arith
+  lag_most Stands = omega arith
 
 -- ---- what a place to flatten has
 
@@ -87,14 +109,14 @@ module _ (first : ℕ) (s : List ℤ) (i at size : ℕ) (rd : Ready first s i at
       let u = rd.room in
       record { inside = omega arith; small = omega arith; room = omega arith }
 
-  pub ready_not : shape_of (kind_of first s i) ≡ negates → Ready first s (i + 1) at size
+  pub ready_not : shape_of (kind_of first s i) ≡ Negates → Ready first s (i + 1) at size
   ready_not h =
       let v = spells_not first s rd.tree i rd.end h rd.spells in
       let u = rd.room in
       record { tree = v.0; end = rd.end; spells = v.2; inside = rd.inside; small = rd.small; room = omega arith }
 
   -- after an operator's children: they are few, and there is a place for it
-  pub ready_node : (o : Operator) → shape_of (kind_of first s i) ≡ joins o → (negate : Bool) (own : Operator)
+  pub ready_node : (o : Operator) → shape_of (kind_of first s i) ≡ Joins o → (negate : Bool) (own : Operator)
       → own ≡ operator_under negate o
       → (out out' : List ℕ) (r : Written) → Collects own first s i negate at out out' r → (r.count ≤ 128) × (r.at < size)
   ready_node o h negate own same out out' r collected =
@@ -113,7 +135,7 @@ module _ (first : ℕ) (s : List ℤ) (i at size : ℕ) (rd : Ready first s i at
       let u = rd.room in
       (omega arith, omega arith)
 
-  module _ (o : Operator) (h : shape_of (kind_of first s i) ≡ joins o) where
+  module _ (o : Operator) (h : shape_of (kind_of first s i) ≡ Joins o) where
     pub ready_left : Ready first s (i + 1) at size
     ready_left =
         let v = spells_join first s o rd.tree i rd.end h rd.spells in
@@ -171,20 +193,20 @@ module _ (first : ℕ) (s : List ℤ) (i at size : ℕ) (rd : Ready first s i at
 -- ---- what each case leaves
 
 module _ (first : ℕ) (s : List ℤ) (i : ℕ) (negate : Bool) (at : ℕ) (out : List ℕ) where
-  module _ (h : shape_of (kind_of first s i) ≡ negates) (out' : List ℕ) (r : Written) where
+  module _ (h : shape_of (kind_of first s i) ≡ Negates) (out' : List ℕ) (r : Written) where
     pub flatten_not : Flattens first s (i + 1) (not negate) at out out' r → Flattens first s i negate at out out' r
     flatten_not f t j sp = let v = spells_not first s t i j h sp in rw v.1 (f v.0 j v.2)
 
     pub collect_not : (p : Operator) → Collects p first s (i + 1) (not negate) at out out' r → Collects p first s i negate at out out' r
     collect_not p f t j sp = let v = spells_not first s t i j h sp in rw v.1 (f v.0 j v.2)
 
-  pub flatten_predicate : shape_of (kind_of first s i) ≡ stands
+  pub flatten_predicate : shape_of (kind_of first s i) ≡ Stands
       → Flattens first s i negate at out (set out at (predicate_code negate i)) (record { next = i + 1; at = at + 1; count = 1 })
   flatten_predicate h t j sp =
       let v = spells_value first s t i j h sp in
       rw (v.0, v.1) (wrote_leaf (predicate_code negate i) i at out)
 
-  module _ (o : Operator) (h : shape_of (kind_of first s i) ≡ joins o) (p : Operator) (same : p ≡ operator_under negate o) where
+  module _ (o : Operator) (h : shape_of (kind_of first s i) ≡ Joins o) (p : Operator) (same : p ≡ operator_under negate o) where
     pub flatten_node : (out' : List ℕ) (r : Written) → Collects p first s i negate at out out' r
         → Flattens first s i negate at out (set out' r.at (operator_code p r.count))
         (record { next = r.next; at = r.at + 1; count = 1 })
@@ -206,13 +228,11 @@ module _ (first : ℕ) (s : List ℤ) (i : ℕ) (negate : Bool) (at : ℕ) (out 
         rw (splice_join o p negate same t v.0 v.1 v.3) (wrote_both fs gs v.2 j at out out₁ out₂ left right w w₂)
 
   -- what is no node of the operator above it stands as it is
-  module _ (p : Operator) (not_not : kind_of first s i ≡ 3 → ⊥)
-      (not_own : kind_of first s i ≡ kind_number (operator_under negate p) → ⊥) where
+  module _ (p : Operator) (other : Other p negate (shape_of (kind_of first s i))) where
     unlike : (t : Tree ℕ) (j : ℕ) → Spells first s t i j → Unlike p (flat predicate_code negate t)
     unfolding Spells
-    unlike (Join o a b) j sp =
-        λ e. not_own (joins_kind (kind_of first s i) o sp.1 ∙ ap kind_number (sym (ap (operator_under negate) e ∙ under_under negate o)))
-    unlike (Not a) j sp = absurd (not_not (negates_kind (kind_of first s i) sp.0))
+    unlike (Join o a b) j sp = subst (Other p negate) sp.1 other
+    unlike (Not a) j sp = absurd (subst (Other p negate) sp.0 other)
     unlike (Value k) j sp = tt
 
     pub collect_other : (out' : List ℕ) (r : Written) → Flattens first s i negate at out out' r → Collects p first s i negate at out out' r

@@ -20,7 +20,8 @@ use Rattle.ast.specs.Trees.{Tree, Join, Not, Value, value, Flat}
 use Rattle.ast.specs.Flattening.{splice, flat, optimize}
 use Rattle.ast.proofs.FlatteningLaws.{flat_flattened, optimize_value}
 use Rattle.sheets.specs.Entries.{kind_of}
-use Rattle.sheets.specs.Spells.{stands, shape_of, Spells}
+use Rattle.sheets.specs.declared.Shape.TheVariants.{Stands}
+use Rattle.sheets.specs.Spells.{shape_of, Spells}
 use Rattle.flattening.specs.Codes.{predicate_code, operator_code, codes_of, code_entry, Leaves}
 use Rattle.flattening.proofs.CodesLaws.{entry_code, count_code, operator_high, codes_most, leaves_append}
 use Rattle.flattening.proofs.CodesLaws.{leaves_splice, leaves_map, codes_all}
@@ -35,7 +36,7 @@ use Rattle.flattening.specs.declared.Optimized.{Optimized}
 module _ (first : ℕ) (s : List ℤ) (n : ℕ) where
   -- a predicate's code names an entry that is a predicate
   abbrev Names : ℕ → Type 0
-  Names c = (code_entry c < n) × (shape_of (kind_of first s (code_entry c)) ≡ stands)
+  Names c = (code_entry c < n) × (shape_of (kind_of first s (code_entry c)) ≡ Stands)
 
   flat_names : (negate : Bool) (t : Tree ℕ) (i j : ℕ) → Spells first s t i j → j ≤ n → Leaves Names (flat predicate_code negate t)
   unfolding Spells

@@ -4,9 +4,10 @@
 --   read_back_lem: codes read back to the rule that they are of; so `codes_of` is injective (codes_injective).
 --   values_fold: run without a state, codes give the fold of their rule.
 -- Assumes nothing.
-use Rattle.std.specs.Prelude.{◌≡◌, Bool, true, false, ltb, length, get_or, take, drop}
+use Rattle.std.proofs.Common.{inl, inr, sym, ap₂, subst, ◌∙◌, lt-ltb, le-ltb, length-append, length-take, take-suc, take_at, drop_at}
+use Rattle.std.proofs.lemmas.Bool.{cases_Bool}
+use Rattle.std.specs.Prelude.{◌≡◌, ltb, length, get_or, take, drop}
 use Rattle.std.proofs.Math.Path.{refl, ap}
-use Rattle.std.proofs.Common.{sym, ap₂, subst, ◌∙◌, lt-ltb, le-ltb, length-append, length-take, take-suc, take_at, drop_at}
 use mathlib.Core.List.{List, [], ◌∷◌, ◌++◌, append_assoc, append-nil, head-eq_of_cons-eq}
 use Prim.Native.Nat.{ℕ, suc, ◌+◌, ◌-◌, ◌<◌, ◌≤◌}
 use native.Mathlib.Omega.{arith}
@@ -90,21 +91,18 @@ module _ {S A : Type 0} (leafStep : S → ℕ → S × A) (joinStep : S → Oper
 step_height : {S A : Type 0} (leafStep : S → ℕ → S × A) (joinStep : S → Operator → List A → S × A) (r : S × List A) (c : ℕ)
     → length (step_code leafStep joinStep r c).1 ≡ height_after c (length r.1)
 unfolding step_code
-step_height leafStep joinStep r c = go (ltb c 256) refl
-  where
-    go : (b : Bool) → ltb c 256 ≡ b → length (step_code leafStep joinStep r c).1 ≡ height_after c (length r.1)
-    go true e = rw e (length-append r.1 ((leafStep r.0 c).1 ∷ []) ∙ omega arith)
-    go false e =
-        let low = length r.1 - code_count c in
-        let top = (joinStep r.0 (code_operator c) (drop low r.1)).1 in
-        rw e (omega (arith, length-append (take low r.1) (top ∷ []), length-take low r.1))
+step_height leafStep joinStep r c = elim (cases_Bool (ltb c 256)) [
+  | inl e ↦ rw e (length-append r.1 ((leafStep r.0 c).1 ∷ []) ∙ omega arith)
+  | inr e ↦ let low = length r.1 - code_count c in
+      let top = (joinStep r.0 (code_operator c) (drop low r.1)).1 in
+      rw e (omega (arith, length-append (take low r.1) (top ∷ []), length-take low r.1))
+]
 
 height_most : (c height : ℕ) → height_after c height ≤ suc height
-height_most c height = go (ltb c 256) refl
-  where
-    go : (b : Bool) → ltb c 256 ≡ b → height_after c height ≤ suc height
-    go true e = rw e (omega arith)
-    go false e = rw e (omega arith)
+height_most c height = elim (cases_Bool (ltb c 256)) [
+  | inl e ↦ rw e (omega arith)
+  | inr e ↦ rw e (omega arith)
+]
 
 module _ {S A : Type 0} (leafStep : S → ℕ → S × A) (joinStep : S → Operator → List A → S × A) where
   -- the stack is no higher than the codes that have run

@@ -6,7 +6,8 @@ use Rattle.evaluation.specs.declared.Operator.{Operator}
 use Rattle.ast.specs.Trees.{Tree, Flats, kids}
 use Rattle.ast.specs.Flattening.{one, splice, flat, optimize}
 use Rattle.sheets.specs.Entries.{kind_of}
-use Rattle.sheets.specs.Spells.{stands, shape_of, Spells}
+use Rattle.sheets.specs.declared.Shape.TheVariants.{Stands}
+use Rattle.sheets.specs.Spells.{shape_of, Spells}
 use Rattle.flattening.specs.Codes.{predicate_code, codes_of, codes_under, code_entry, code_count}
 use Rattle.flattening.specs.declared.Written.{Written}
 use Rattle.flattening.specs.declared.Optimized.{Optimized}
@@ -40,7 +41,7 @@ Collects o first s i negate at out out' r =
 -- what a code of a sheet of n entries says: a predicate's names an entry that is a predicate, an operator's has two children at least
 pub record CodeWithin (first : ℕ) (s : List ℤ) (n c : ℕ) : Type 0 where
   pub entry : c < 256 → code_entry c < n
-  pub predicate : c < 256 → shape_of (kind_of first s (code_entry c)) ≡ stands
+  pub predicate : c < 256 → shape_of (kind_of first s (code_entry c)) ≡ Stands
   pub count : 256 ≤ c → 2 ≤ code_count c
 
 -- the codes of a rule, and zeros after them

@@ -1,20 +1,13 @@
 // Flattening: the entries of a sheet become codes in postfix, with Not pushed to the predicates and nested equal operators joined.
 #![tactic(auto)]
 
-ghost use Rattle.std.specs.Prelude.{length, ◌≡◌, ◌||◌, ◌<◌, ◌≤◌, eqb};
+ghost use Rattle.std.specs.Prelude.{length, ◌≡◌, ◌<◌, ◌≤◌};
 ghost use Rattle.evaluation.specs.Kleene.{operator_under};
 ghost use Rattle.flattening.specs.Codes.{predicate_code, operator_code};
 ghost use Rattle.flattening.specs.Writing.{Ready, Flattens, Collects, Optimizes};
-ghost use Rattle.flattening.specs.Kinds.{kind_number, operator_numbered};
 
 use evaluation::Operator;
-
-// The kinds of the entries that are no predicates.
-const AND: usize = 1;
-
-const OR: usize = 2;
-
-const NOT: usize = 3;
+use sheets::{ENTRY_LIMIT, Shape, Sheet};
 
 // How far a writing has come: the next entry, the next place of the output, and how many flattened rules it wrote side by side.
 #[derive(Clone, Copy)]
@@ -24,38 +17,20 @@ pub struct Written {
     pub count: usize,
 }
 
-// A flattened rule: its codes, and how many there are.
+// A flattened rule: its codes, and how many there are. The buffer with a count beside it is fixed memory: no rule is longer than a sheet.
 #[derive(Clone, Copy)]
 pub struct Optimized {
-    pub codes: [u16; 128],
+    pub codes: [u16; ENTRY_LIMIT],
     pub count: usize,
 }
 
-// Whether a kind is And or Or.
-fn is_operator(kind: usize) -> bool
-    ensures { result ≡ (eqb kind 1 || eqb kind 2) }
+// What an operator becomes under an odd number of Nots or an even one.
+fn under(operator: Operator, negate: bool) -> Operator
+    ensures { result ≡ operator_under negate operator }
 {
-    kind == AND || kind == OR
-}
-
-// The operator that an entry of a kind And or Or becomes, under an odd number of Nots or an even one.
-fn operator(kind: usize, negate: bool) -> Operator
-    ensures { result ≡ operator_under negate (operator_numbered kind) }
-{
-    if kind == OR {
-        if negate { Operator::And } else { Operator::Or }
-    } else {
-        if negate { Operator::Or } else { Operator::And }
-    }
-}
-
-// The kind of the entries that become an operator, under an odd number of Nots or an even one.
-fn kind_of(operator: Operator, negate: bool) -> usize
-    ensures { result ≡ kind_number (operator_under negate operator) }
-{
-    match operator {
-        Operator::And => if negate { OR } else { AND },
-        Operator::Or => if negate { AND } else { OR },
+    match (operator, negate) {
+        (Operator::And, false) | (Operator::Or, true) => Operator::And,
+        (Operator::Or, false) | (Operator::And, true) => Operator::Or,
     }
 }
 
@@ -64,11 +39,7 @@ fn predicate_code(negate: bool, i: usize) -> u16
     requires { i < 128 }
     ensures { result ≡ predicate_code negate i }
 {
-    if negate {
-        2 * (i as u16) + 1
-    } else {
-        2 * (i as u16)
-    }
+    2 * (i as u16) + u16::from(negate)
 }
 
 // The code of an operator over so many children.
@@ -83,83 +54,72 @@ fn operator_code(operator: Operator, count: usize) -> u16
     }
 }
 
-// The tree at entry i, flattened: Not turns what is under it, an operator stands after what it collects.
+// The tree at entry i, flattened: Not turns what is under it, an operator stands after what it collects. The output is lent, and its next
+// place stands beside it: a call gives it back with the next entry, as `Written`.
 #[cycle(collect_flatten)]
-fn flatten(s: &[i64], first: usize, i: usize, negate: bool, out: &mut [u16], at: usize) -> Written
-    requires { Ready first s.now i at (length out.old) }
-    ensures { Flattens first s.now i negate at out.old out.new result }
+fn flatten(sheet: Sheet, i: usize, negate: bool, out: &mut [u16], at: usize) -> Written
+    requires { Ready sheet.first sheet.numbers.now i at (length out.old) }
+    ensures { Flattens sheet.entry.first sheet.entry.numbers.now i negate at out.old out.new result }
 {
-    let kind = sheets::number(s, first + 5 * i);
-    if kind == NOT {
-        let turned = !negate;
-        return flatten(s, first, i + 1, turned, out, at);
-    }
-    if is_operator(kind) {
-        let own = operator(kind, negate);
-        let children = collect(s, first, i, negate, own, out, at);
-        let next = children.next;
-        let end = children.at;
-        let count = children.count;
-        out[end] = operator_code(own, count);
-        let past = end + 1;
-        return Written {
-            next,
-            at: past,
-            count: 1,
-        };
-    }
-    out[at] = predicate_code(negate, i);
-    let next = i + 1;
-    let past = at + 1;
-    Written {
-        next,
-        at: past,
-        count: 1,
+    match sheet.shape(i) {
+        Shape::Negates => flatten(sheet, i + 1, !negate, out, at),
+        Shape::Joins(operator) => {
+            let own = under(operator, negate);
+            let children = collect(sheet, i, negate, own, out, at);
+            out[children.at] = operator_code(own, children.count);
+            Written {
+                next: children.next,
+                at: children.at + 1,
+                count: 1,
+            }
+        }
+        Shape::Stands => {
+            out[at] = predicate_code(negate, i);
+            Written {
+                next: i + 1,
+                at: at + 1,
+                count: 1,
+            }
+        }
     }
 }
 
 // What the tree at entry i brings to an operator above it: its children where it has that operator, else itself.
 #[cycle(collect_flatten)]
 fn collect(
-    s: &[i64],
-    first: usize,
+    sheet: Sheet,
     i: usize,
     negate: bool,
     parent: Operator,
     out: &mut [u16],
     at: usize,
 ) -> Written
-    requires { Ready first s.now i at (length out.old) }
-    ensures { Collects parent first s.now i negate at out.old out.new result }
+    requires { Ready sheet.first sheet.numbers.now i at (length out.old) }
+    ensures { Collects parent sheet.entry.first sheet.entry.numbers.now i negate at out.old out.new result }
 {
-    let kind = sheets::number(s, first + 5 * i);
-    if kind == NOT {
-        let turned = !negate;
-        return collect(s, first, i + 1, turned, parent, out, at);
+    match sheet.shape(i) {
+        Shape::Negates => collect(sheet, i + 1, !negate, parent, out, at),
+        Shape::Joins(operator) if under(operator, negate) == parent => {
+            let left = collect(sheet, i + 1, negate, parent, out, at);
+            let right = collect(sheet, left.next, negate, parent, out, left.at);
+            Written {
+                count: left.count + right.count,
+                ..right
+            }
+        }
+        _ => flatten(sheet, i, negate, out, at),
     }
-    if kind == kind_of(parent, negate) {
-        let left = collect(s, first, i + 1, negate, parent, out, at);
-        let next = left.next;
-        let end = left.at;
-        let count = left.count;
-        let right = collect(s, first, next, negate, parent, out, end);
-        let together = count + right.count;
-        return Written {
-            next: right.next,
-            at: right.at,
-            count: together,
-        };
-    }
-    flatten(s, first, i, negate, out, at)
 }
 
 // The whole sheet, flattened.
-pub fn optimize(s: &[i64], first: usize) -> Optimized
-    requires { Ready first s.now 0 0 128 }
-    ensures { Optimizes first s.now result }
+pub fn optimize(sheet: Sheet) -> Optimized
+    requires { Ready sheet.first sheet.numbers.now 0 0 128 }
+    ensures { Optimizes sheet.entry.first sheet.entry.numbers.now result }
 {
-    let mut codes = [0u16; 128];
-    let written = flatten(s, first, 0, false, &mut codes, 0);
-    let count = written.at;
-    Optimized { codes, count }
+    let mut codes = [0; ENTRY_LIMIT];
+    let written = flatten(sheet, 0, false, &mut codes, 0);
+    Optimized {
+        codes,
+        count: written.at,
+    }
 }

@@ -1,5 +1,4 @@
 -- Laws of answers and of calls one after the other.
---   then_both, then_refused       checks one after the other: Done where each is, else the first refusal
 --   unless_done, unless_refused   what a call leaves
 --   within_iff                    the test of the room counts is `Within`
 --   Follows                       a machine answers as another does, from states that stand for one another: then it tells the same
@@ -8,11 +7,9 @@
 use Rattle.std.specs.Prelude.{◌≡◌, refl, ◌↔◌, Bool, true, false, List, [], ◌∷◌, leb}
 use Rattle.std.proofs.Common.{ap, ap₂, sym, ◌∙◌, subst, arith, leb-true, le-leb, ne_eqb}
 use Rattle.std.proofs.Math.Option.{Option, none, some}
-use Rattle.std.proofs.Math.Decide.{ℕ_discrete}
-use Rattle.error.specs.Answers.{Answer, number, then}
-use Rattle.error.specs.Answers.{Done, SheetMalformed, LimitPassed, NameTwice, NoAttribute, OtherKind, NotSuited}
-use Rattle.error.specs.Answers.{IdLive, IdNotLive, NoRoom, BookDamaged, BufferShort, EventUnsuited, NotSet}
-use Rattle.error.proofs.AnswersLaws.{one_number_each}
+use Rattle.error.specs.Answers.{Answer, Done, Refused, number, then}
+use Rattle.error.specs.declared.Refusal.TheVariants.{IdLive, NoRoom}
+use Rattle.error.proofs.AnswersLaws.{one_number_each, done?, then_done, then_refused, then_both}
 use Rattle.lists.specs.Places.{All, both}
 use Rattle.lists.specs.And.{◌and◌}
 use Rattle.lists.specs.AndLaws.{and_left, and_right, and_both}
@@ -21,31 +18,6 @@ use Rattle.histories.specs.Calls.{Act, insert, delete, Call, Told, Machine}
 use Rattle.histories.specs.Calls.{where_free, room_answer, insert_answer, delete_answer, answer_of, unless, next, run, end, within}
 
 -- ---- answers
-
-pub done? : (a : Answer) → Dec (a ≡ Done)
-done? a = elim (ℕ_discrete (number a) 0) [ yes e ↦ yes (one_number_each a Done e) | no n ↦ no (λ e. n (ap number e)) ]
-
-pub then_done : (a b : Answer) → a ≡ Done → then a b ≡ b
-then_done a b e = ap (λ (x : Answer). then x b) e
-
-pub then_refused : (a b : Answer) → ¬ (a ≡ Done) → then a b ≡ a
-then_refused Done b n = absurd (n refl)
-then_refused SheetMalformed b n = refl
-then_refused LimitPassed b n = refl
-then_refused NameTwice b n = refl
-then_refused NoAttribute b n = refl
-then_refused OtherKind b n = refl
-then_refused NotSuited b n = refl
-then_refused IdLive b n = refl
-then_refused IdNotLive b n = refl
-then_refused NoRoom b n = refl
-then_refused BookDamaged b n = refl
-then_refused BufferShort b n = refl
-then_refused EventUnsuited b n = refl
-then_refused NotSet b n = refl
-
-pub then_both : (a b : Answer) → then a b ≡ Done → (a ≡ Done) × (b ≡ Done)
-then_both a b e = elim (done? a) [ yes d ↦ (d, sym (then_done a b d) ∙ e) | no n ↦ absurd (n (sym (then_refused a b n) ∙ e)) ]
 
 module _ {A : Type 0} (a : Answer) (new old : A) where
   pub unless_done : a ≡ Done → unless a new old ≡ new
@@ -92,8 +64,8 @@ module _ {A B : Type 0} where
 
 free_done : {A : Type 0} (found : Option A) (room : Bool) → where_free found (room_answer room) ≡ Done → (found ≡ none) × (room ≡ true)
 free_done none true e = (refl, refl)
-free_done none false e = absurd (differ NoRoom Done (λ z. omega arith) e)
-free_done (some x) room e = absurd (differ IdLive Done (λ z. omega arith) e)
+free_done none false e = absurd (differ (Refused NoRoom) Done (λ z. omega arith) e)
+free_done (some x) room e = absurd (differ (Refused IdLive) Done (λ z. omega arith) e)
 
 -- an insert is done exactly where the sheet has no fault, the id is free and there is room
 pub insert_done : {A : Type 0} (refusal : Answer) (found : Option A) (room : Bool)
@@ -105,14 +77,14 @@ insert_done refusal found room = (
 
 -- with room for everything the answer is the same, but where it was refused for room
 pub roomy_answer : {A S : Type 0} (refuses : S → Answer) (found : Option A) (room : S → Bool) (act : Act S)
-    → ¬ (answer_of refuses found room act ≡ NoRoom) → answer_of refuses found room act ≡ answer_of refuses found (λ s. true) act
+    → ¬ (answer_of refuses found room act ≡ Refused NoRoom) → answer_of refuses found room act ≡ answer_of refuses found (λ s. true) act
 roomy_answer refuses found room (insert s) n =
     elim (done? (refuses s)) [
       | yes e ↦ ap (then (refuses s)) (go found (room s) (λ k. n (then_done (refuses s) _ e ∙ k)))
       | no m ↦ then_refused (refuses s) _ m ∙ sym (then_refused (refuses s) _ m)
     ]
   where
-    go : {A : Type 0} (found : Option A) (room : Bool) → ¬ (where_free found (room_answer room) ≡ NoRoom)
+    go : {A : Type 0} (found : Option A) (room : Bool) → ¬ (where_free found (room_answer room) ≡ Refused NoRoom)
         → where_free found (room_answer room) ≡ where_free found (room_answer true)
     go none true n = refl
     go none false n = absurd (n refl)

@@ -11,7 +11,8 @@ use Rattle.std.specs.Prelude.{◌≡◌, ◌↔◌, Bool, List, [], ◌∷◌, �
 use Rattle.std.proofs.Common.{ap, sym, ◌∙◌, subst, le_trans, arith}
 use Rattle.std.proofs.Math.Option.{none}
 use Rattle.std.proofs.lemmas.List.{length-map}
-use Rattle.error.specs.Answers.{Answer, Done, NoRoom}
+use Rattle.error.specs.Answers.{Answer, Done, Refused}
+use Rattle.error.specs.declared.Refusal.TheVariants.{NoRoom}
 use Rattle.evaluation.specs.declared.Truth.{Truth}
 use Rattle.evaluation.specs.Kleene.{truth_under}
 use Rattle.lists.specs.Places.{All, Any, Distinct}
@@ -93,7 +94,7 @@ module _ {S P : Type 0} (refuses : S → Answer) (original : S → Tree P) (lit 
   counts_of_live = reached_counts refuses tree most longest fit
 
   pub room_exactly : (b : Book) → Sound longest b → (i : ℕ) (s : S) → refuses s ≡ Done → lookup i b.rules ≡ none
-      → (answer_of refuses (lookup i b.rules) (room_in refuses tree most b i) (insert s) ≡ NoRoom)
+      → (answer_of refuses (lookup i b.rules) (room_in refuses tree most b i) (insert s) ≡ Refused NoRoom)
       ↔ (¬ Within (room_of (tree s ∷ live_trees b)) most)
   room_exactly b sound i s e free = no_room refuses tree most longest fit b sound i s e free
 

@@ -8,7 +8,8 @@
 use Rattle.std.specs.Prelude.{◌≡◌, refl, ◌↔◌, Bool, true, false, List, [], ◌∷◌, ℕ, ◌≤◌}
 use Rattle.std.proofs.Common.{ap, sym, ◌∙◌, subst, true≢false, arith}
 use Rattle.std.proofs.Math.Option.{Option, none}
-use Rattle.error.specs.Answers.{Answer, Done, NoRoom}
+use Rattle.error.specs.Answers.{Answer, Done, Refused}
+use Rattle.error.specs.declared.Refusal.TheVariants.{NoRoom}
 use Rattle.lists.proofs.PlacesLaws.{all_of}
 use Rattle.predicates.specs.Predicate.{Predicate}
 use Rattle.ast.specs.Trees.{Flat}
@@ -23,7 +24,8 @@ use Rattle.model.specs.Sound.{Sound}
 use Rattle.model.proofs.InsertLaws.{inserted_counts}
 use Rattle.histories.specs.Calls.{Act, insert, delete, Call, Machine, answer_of, where_free, room_answer, run, end}
 use Rattle.histories.specs.Calls.{within, room_in, change_of, books}
-use Rattle.histories.proofs.CallsLaws.{Follows, answer_alike, insert_done, then_done, within_iff, differ, run_alike, end_alike}
+use Rattle.error.proofs.AnswersLaws.{then_done}
+use Rattle.histories.proofs.CallsLaws.{Follows, answer_alike, insert_done, within_iff, differ, run_alike, end_alike}
 use Rattle.histories.specs.Live.{live_after, live_change, trees_of, lives, room_beside, live_rules}
 use Rattle.histories.proofs.LiveLaws.{end_told}
 use Rattle.histories.specs.Stands.{Stands}
@@ -114,9 +116,9 @@ module _ {S : Type 0} (refuses : S → Answer) (tree : S → Flat Predicate) (mo
         ∙ ap (λ (o : Option ℕ). where_free o (room_answer (room_in refuses tree most b i s))) free
         ∙ ap (λ (c : Counts). room_answer (within c most)) counts
 
-    room_answer_lem : (r : Bool) → (room_answer r ≡ Done → r ≡ true) × (room_answer r ≡ NoRoom → r ≡ false)
-    room_answer_lem true = (λ e. refl, λ e. absurd (differ Done NoRoom (λ z. omega arith) e))
-    room_answer_lem false = (λ e. absurd (differ NoRoom Done (λ z. omega arith) e), λ e. refl)
+    room_answer_lem : (r : Bool) → (room_answer r ≡ Done → r ≡ true) × (room_answer r ≡ Refused NoRoom → r ≡ false)
+    room_answer_lem true = (λ e. refl, λ e. absurd (differ Done (Refused NoRoom) (λ z. omega arith) e))
+    room_answer_lem false = (λ e. absurd (differ (Refused NoRoom) Done (λ z. omega arith) e), λ e. refl)
 
     pub has_room : (insertion ≡ Done) ↔ Room
     has_room =
@@ -125,7 +127,7 @@ module _ {S : Type 0} (refuses : S → Answer) (tree : S → Flat Predicate) (mo
           λ w. by_room ∙ ap room_answer ((within_iff c most).1 w),
         )
 
-    pub no_room : (insertion ≡ NoRoom) ↔ (¬ Room)
+    pub no_room : (insertion ≡ Refused NoRoom) ↔ (¬ Room)
     no_room =
         let c = room_of (tree s ∷ live_trees b) in (
           λ e w. true≢false (sym ((within_iff c most).1 w) ∙ (room_answer_lem (within c most)).1 (sym by_room ∙ e)),

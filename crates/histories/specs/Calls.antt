@@ -3,7 +3,8 @@
 -- Laws in `CallsLaws`. Assumes nothing: these are definitions.
 use Rattle.std.specs.Prelude.{Bool, true, false, cond, List, [], ◌∷◌, ℕ, eqb, leb}
 use Rattle.std.proofs.Math.Option.{Option, none, some}
-use Rattle.error.specs.Answers.{Answer, Done, IdLive, IdNotLive, NoRoom, number, then}
+use Rattle.error.specs.Answers.{Answer, Done, Refused, number, then}
+use Rattle.error.specs.declared.Refusal.TheVariants.{IdLive, IdNotLive, NoRoom}
 use Rattle.lists.specs.And.{◌and◌}
 use Rattle.predicates.specs.Predicate.{Predicate}
 use Rattle.ast.specs.Trees.{Flat}
@@ -27,12 +28,12 @@ pub record Call (S : Type 0) : Type 0 where
 -- 7 where the id is live, else the next check
 abbrev pub where_free : {A : Type 0} → Option A → Answer → Answer
 where_free none next = next
-where_free (some x) next = IdLive
+where_free (some x) next = Refused IdLive
 
 -- 9 where there is no room
 abbrev pub room_answer : Bool → Answer
 room_answer true = Done
-room_answer false = NoRoom
+room_answer false = Refused NoRoom
 
 -- an insert: the sheet's own faults, then the id, then the room
 abbrev pub insert_answer : {A : Type 0} → Answer → Option A → Bool → Answer
@@ -40,7 +41,7 @@ insert_answer refusal found room = then refusal (where_free found (room_answer r
 
 -- a delete: 8 where the id is not live
 abbrev pub delete_answer : {A : Type 0} → Option A → Answer
-delete_answer none = IdNotLive
+delete_answer none = Refused IdNotLive
 delete_answer (some x) = Done
 
 -- the answer to what is asked under an id: `found` is what is live under it, `room` whether a sheet finds room

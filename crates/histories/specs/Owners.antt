@@ -1,7 +1,8 @@
 -- Owners: two merges of their calls, disjoint ids, and runs in which nothing is refused for room. Assumes nothing: these are definitions.
 use Rattle.std.specs.Prelude.{◌≡◌, List, [], ◌∷◌, ℕ}
 use Rattle.std.proofs.Math.Decide.{ℕ_discrete}
-use Rattle.error.specs.Answers.{Answer, NoRoom}
+use Rattle.error.specs.Answers.{Answer, Refused}
+use Rattle.error.specs.declared.Refusal.TheVariants.{NoRoom}
 use Rattle.lists.specs.Places.{All}
 use Rattle.model.specs.Rules.{whether}
 use Rattle.histories.specs.Calls.{Call, Told}
@@ -29,4 +30,4 @@ Apart l = All (λ c. All (λ d. d.id ≡ c.id → d.owner ≡ c.owner) l) l
 
 -- an answer other than for room
 abbrev pub Roomy : Answer → Type 0
-Roomy a = ¬ (a ≡ NoRoom)
+Roomy a = ¬ (a ≡ Refused NoRoom)

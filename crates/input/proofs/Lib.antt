@@ -1,3 +1,2 @@
-mod FillingLaws
 pub mod CutLaws
 pub mod ReadingLaws

@@ -1,15 +1,11 @@
 -- What reading does to a buffer and its window, and what a whole step does. Laws in `ReadingLaws`.
 -- Assumes nothing: these are definitions.
-use Rattle.std.specs.Prelude.{◌≡◌, true, cond, List, ◌++◌, ℕ, ◌-◌, ◌≤◌, leb, length, take, drop}
+use Rattle.std.specs.Prelude.{◌≡◌, true, cond, List, ℕ, ◌≤◌, leb, length, take}
 use Rattle.lists.specs.And.{◌and◌}
 use Rattle.input.specs.declared.Window.{Window}
 use Rattle.input.specs.declared.Step.{Step}
 use Rattle.input.specs.declared.Step.TheVariants.{Line, TooLong, More, End}
-use Rattle.input.specs.Cut.{part, unread, Fine, cut_of}
-
--- a buffer with what stands from one place up to another moved to its start
-abbrev pub moved : List ℕ → ℕ → ℕ → List ℕ
-moved b from to = part b from to ++ drop (to - from) b
+use Rattle.input.specs.Cut.{unread, Fine, cut_of}
 
 -- After a read, or none: what stood in the window stands there still, with what was read behind it. Where the input has ended nothing came.
 pub record Filled (b : List ℕ) (w : Window) (after : List ℕ) (n : Window) : Type 0 where

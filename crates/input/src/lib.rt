@@ -5,7 +5,7 @@
 
 ghost use Rattle.std.specs.Prelude.{◌≡◌, ◌≤◌, ◌<◌, length, slice_index, EachIndex};
 ghost use Rattle.input.specs.Cut.{nothing_read, Fine, emptied_of, whole_of, part_of, cut_of};
-ghost use Rattle.input.specs.Reading.{moved, Filled, Handed};
+ghost use Rattle.input.specs.Reading.{Filled, Handed};
 
 use lines::LINE_LIMIT;
 use std::io::Read;
@@ -15,7 +15,7 @@ pub const BUFFER_SIZE: usize = 131072;
 
 // What stands in the buffer from `from` up to `to` was read and not handed out. `ended`: there is no more to read. `passing`: what comes
 // next is the rest of a line that was told as too long.
-#[derive(Clone, Copy)]
+#[derive(Debug, Clone, Copy, PartialEq, Eq)]
 pub struct Window {
     pub from: usize,
     pub to: usize,
@@ -24,7 +24,7 @@ pub struct Window {
 }
 
 // What a step hands out. A line is what stands in the buffer from `start` up to `end`; of one that is too long it is a part.
-#[derive(Clone, Copy)]
+#[derive(Debug, Clone, Copy, PartialEq, Eq)]
 pub enum Step {
     Line {
         start: usize,
@@ -59,110 +59,98 @@ pub fn buffer() -> [u8; BUFFER_SIZE]
     [0u8; BUFFER_SIZE]
 }
 
-// All of the window is handed out or passed over.
-fn emptied(window: Window, passing: bool) -> Window
-    ensures { result ≡ emptied_of window passing }
-{
-    Window {
-        from: window.to,
-        to: window.to,
-        ended: window.ended,
-        passing,
-    }
-}
-
-// The step where a newline stands at `end`.
-#[tactic(auto, using(std::proofs::lemmas::Bool::Decides::nat_tests), unfolding(crate::specs::Cut::whole_of))]
-fn whole(window: Window, end: usize) -> Step
-    requires { (window.from ≤ end) × (end < window.to) }
-    ensures { result ≡ whole_of window end }
-{
-    let start = window.from;
-    let next = Window {
-        from: end + 1,
-        to: window.to,
-        ended: window.ended,
-        passing: false,
-    };
-    if window.passing {
-        return Step::More(next);
-    }
-    if end - start <= LINE_LIMIT {
-        return Step::Line { start, end, next };
-    }
-    Step::TooLong { start, end, next }
-}
-
-// The step where there is no newline: the line may go on, unless the input has ended or it is too long already.
-fn partial(window: Window) -> Step
-    requires { window.from ≤ window.to }
-    ensures { result ≡ part_of window }
-{
-    let start = window.from;
-    let end = window.to;
-    if window.passing {
-        if window.ended {
-            return Step::End;
+impl Window {
+    // All of the window is handed out or passed over.
+    fn emptied(self, passing: bool) -> Window
+        ensures { result ≡ emptied_of self passing }
+    {
+        Window {
+            from: self.to,
+            passing,
+            ..self
         }
-        return Step::More(emptied(window, true));
     }
-    if LINE_LIMIT < end - start {
-        let next = emptied(window, true);
-        return Step::TooLong { start, end, next };
-    }
-    if window.ended {
-        if start == end {
-            return Step::End;
+
+    // The step where a newline stands at `end`.
+    #[tactic(auto, using(std::proofs::lemmas::Bool::Decides::nat_tests), unfolding(crate::specs::Cut::whole_of))]
+    fn whole(self, end: usize) -> Step
+        requires { (self.from ≤ end) × (end < self.to) }
+        ensures { result ≡ whole_of self end }
+    {
+        let start = self.from;
+        let next = Window {
+            from: end + 1,
+            passing: false,
+            ..self
+        };
+        if self.passing {
+            Step::More(next)
+        } else if end - start <= LINE_LIMIT {
+            Step::Line { start, end, next }
+        } else {
+            Step::TooLong { start, end, next }
         }
-        let next = emptied(window, false);
-        return Step::Line { start, end, next };
     }
-    Step::More(window)
+
+    // The step where there is no newline: the line may go on, unless the input has ended or it is too long already.
+    #[tactic(auto, using(std::proofs::lemmas::Bool::Decides::nat_tests), unfolding(crate::specs::Cut::part_of))]
+    fn partial(self) -> Step
+        requires { self.from ≤ self.to }
+        ensures { result ≡ part_of self }
+    {
+        let start = self.from;
+        let end = self.to;
+        match (self.passing, self.ended) {
+            (true, true) => Step::End,
+            (true, false) => Step::More(self.emptied(true)),
+            (false, _) if LINE_LIMIT < end - start => Step::TooLong {
+                start,
+                end,
+                next: self.emptied(true),
+            },
+            (false, true) if start == end => Step::End,
+            (false, true) => Step::Line {
+                start,
+                end,
+                next: self.emptied(false),
+            },
+            (false, false) => Step::More(self),
+        }
+    }
 }
 
-// The next line of what stands in the window.
+// The next line of what stands in the window. The buffer and its window stay two parameters here and below: a struct of both is no plainer,
+// since a `&mut` beside a ghost field has to be taken out for each call and put back.
+#[tactic(auto, using(std::proofs::lemmas::Bool::Decides::nat_tests), unfolding(crate::specs::Cut::cut_of))]
 fn cut(buffer: &[u8], window: Window) -> Step
     requires { Fine buffer.now window }
     ensures { result ≡ cut_of buffer.now window }
 {
-    let from = window.from;
-    let to = window.to;
-    let end = lines::line_end(buffer, from, to);
-    if end < to {
-        return whole(window, end);
-    }
-    partial(window)
-}
-
-// Moves what stands from `from` up to `to` to the start of the buffer.
-fn move_down(buffer: &mut [u8], from: usize, to: usize)
-    requires { (from ≤ to) × (to ≤ length buffer.old) }
-    ensures { buffer.new ≡ moved buffer.old from to }
-{
-    let held = to - from;
-    let mut i = 0;
-    while i < held {
-        buffer[i] = buffer[from + i];
-        i += 1;
+    let end = lines::line_end(buffer, window.from, window.to);
+    if end < window.to {
+        window.whole(end)
+    } else {
+        window.partial()
     }
 }
 
-// Reads once, behind what stands in the window. Where nothing comes the input has ended, and a read that fails brings nothing.
+// Moves what stands in the window to the start of the buffer, and reads once behind it. Where nothing comes the input has ended, and a read
+// that fails brings nothing.
 fn fill<R: Read>(input: &mut R, buffer: &mut [u8], window: Window) -> Window
     requires { Fine buffer.old window }
     ensures { Filled buffer.old window buffer.new result }
 {
     let from = window.from;
     let to = window.to;
-    move_down(buffer, from, to);
     let held = to - from;
+    buffer.copy_within(from..to, 0);
     let got = input.read(&mut buffer[held..]);
     let count = got.unwrap_or(0);
     Window {
         from: 0,
         to: held + count,
         ended: count == 0,
-        passing: window.passing,
+        ..window
     }
 }
 
@@ -172,10 +160,7 @@ fn more<R: Read>(input: &mut R, buffer: &mut [u8], window: Window) -> Window
     requires { Fine buffer.old window }
     ensures { Filled buffer.old window buffer.new result }
 {
-    if window.ended {
-        return window;
-    }
-    if LINE_LIMIT < window.to - window.from {
+    if window.ended || LINE_LIMIT < window.to - window.from {
         return window;
     }
     fill(input, buffer, window)
@@ -185,17 +170,12 @@ fn more<R: Read>(input: &mut R, buffer: &mut [u8], window: Window) -> Window
 fn advance<R: Read>(input: &mut R, buffer: &mut [u8], window: Window) -> Step
     ensures { Handed buffer.old window buffer.new result }
 {
-    if window.to < window.from {
-        return Step::End;
-    }
-    if buffer.len() < window.to {
+    if window.to < window.from || buffer.len() < window.to {
         return Step::End;
     }
     match cut(buffer, window) {
-        Step::Line { start, end, next } => Step::Line { start, end, next },
-        Step::TooLong { start, end, next } => Step::TooLong { start, end, next },
         Step::More(next) => Step::More(more(input, buffer, next)),
-        Step::End => Step::End,
+        step => step,
     }
 }
 

@@ -1,4 +1,4 @@
-mod FirstLaws
+mod LibraryLaws
 mod PartLaws
 mod WritingLaws
 pub mod ColonLaws

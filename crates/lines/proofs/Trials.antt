@@ -1,6 +1,6 @@
 -- Words and lines read by the definitions themselves.
 -- Assumes nothing.
-use Rattle.std.specs.Prelude.{◌≡◌, refl, true, false, [], ◌∷◌, map, ◌-◌, ◌^◌, pos, negsuc}
+use Rattle.std.specs.Prelude.{◌≡◌, refl, true, false, [], ◌∷◌, map, ◌-◌, ◌^◌, pos, negsuc, ℕ, ℤ, Option, Some, None}
 use Prim.Native.String.{String}
 use Rattle.lists.specs.And.{◌and◌}
 use Rattle.lines.specs.Text.{bytes_of}
@@ -9,11 +9,6 @@ use Rattle.lines.specs.Words.{words_of, lines_of, every, is_word, is_line}
 use Rattle.lines.specs.Colon.{last_colon}
 use Rattle.lines.specs.Numbers.{is_digit, value_after, is_numeral, is_negative, is_integer, integer_of, is_within, number_of, unsigned_of}
 use Rattle.lines.specs.Digits.{digits_in, digits_of}
-use Rattle.lines.specs.declared.Found.TheVariants.{At}
-use Rattle.lines.specs.declared.numbers.Number.{Number}
-use Rattle.lines.specs.declared.numbers.Number.TheVariants.{Of, None}
-use Rattle.lines.specs.declared.numbers.Unsigned.{Unsigned}
-use Rattle.lines.specs.declared.numbers.Unsigned.TheVariants.{Of as OfUnsigned, None as NoUnsigned}
 
 -- ---- words and lines
 
@@ -39,13 +34,13 @@ pub lines_ended : lines_of (bytes_of "a\nbc\n") ≡ bytes_of "a" ∷ bytes_of "b
 unfolding lines_of parted on_first
 lines_ended = refl
 
-pub colon_last : last_colon (bytes_of "a:b:float") ≡ At 3
+pub colon_last : last_colon (bytes_of "a:b:float") ≡ Some 3
 unfolding last_colon
 colon_last = refl
 
 -- ---- numbers: a table of words and what each says
 
-abbrev signed : String → Number
+abbrev signed : String → Option ℤ
 signed s = number_of (bytes_of s)
 
 pub signed_words : map signed
@@ -63,13 +58,13 @@ pub signed_words : map signed
     ∷ "--1"
     ∷ "12a"
     ∷ [])
-    ≡ Of (pos (2 ^ 63 - 1))
+    ≡ Some (pos (2 ^ 63 - 1))
     ∷ None
-    ∷ Of (negsuc (2 ^ 63 - 1))
+    ∷ Some (negsuc (2 ^ 63 - 1))
     ∷ None
-    ∷ Of (pos 7)
-    ∷ Of (pos 0)
-    ∷ Of (negsuc 6)
+    ∷ Some (pos 7)
+    ∷ Some (pos 0)
+    ∷ Some (negsuc 6)
     ∷ None
     ∷ None
     ∷ None
@@ -80,7 +75,7 @@ pub signed_words : map signed
 unfolding number_of is_integer integer_of is_numeral is_negative is_within value_after every is_digit ◌and◌
 signed_words = refl
 
-abbrev stamp : String → Unsigned
+abbrev stamp : String → Option ℕ
 stamp s = unsigned_of (2 ^ 64 - 1) (bytes_of s)
 
 pub stamp_words : map stamp
@@ -90,20 +85,20 @@ pub stamp_words : map stamp
     ∷ "-1"
     ∷ "0018"
     ∷ [])
-    ≡ OfUnsigned (2 ^ 64 - 1)
-    ∷ NoUnsigned
-    ∷ OfUnsigned 0
-    ∷ NoUnsigned
-    ∷ OfUnsigned 18
+    ≡ Some (2 ^ 64 - 1)
+    ∷ None
+    ∷ Some 0
+    ∷ None
+    ∷ Some 18
     ∷ []
 unfolding unsigned_of is_integer integer_of is_numeral is_negative is_within value_after every is_digit ◌and◌
 stamp_words = refl
 
-abbrev id : String → Unsigned
+abbrev id : String → Option ℕ
 id s = unsigned_of 4294967295 (bytes_of s)
 
 pub id_words : map id ("4294967295" ∷ "4294967296" ∷ "-0" ∷ "-1" ∷ [])
-    ≡ OfUnsigned 4294967295 ∷ NoUnsigned ∷ OfUnsigned 0 ∷ NoUnsigned ∷ []
+    ≡ Some 4294967295 ∷ None ∷ Some 0 ∷ None ∷ []
 unfolding unsigned_of is_integer integer_of is_numeral is_negative is_within value_after every is_digit ◌and◌
 id_words = refl
 

@@ -5,8 +5,9 @@
 --     digits_value, read_written, read_signed  read back, the number itself
 -- Assumes nothing.
 use Rattle.std.specs.Prelude.{◌≡◌, refl, true, false, List, [], ◌∷◌, ◌++◌, ℕ, zero, suc, ◌+◌, ◌*◌, ◌-◌, ◌/◌, ◌%◌, ◌^◌, ◌≤◌, ◌<◌, pos}
-use Rattle.std.specs.Prelude.{length, get_or}
+use Rattle.std.specs.Prelude.{length, get_or, Some}
 use Rattle.std.proofs.Common.{sym, ap, ◌∙◌, pow-suc, arith, lt-ltb, le-ltb, ne_eqb, le-leb, leb-true, length-append}
+use Rattle.std.specs.Option.{option_map}
 use Rattle.std.proofs.Math.Decide.{dec_lt}
 use Rattle.std.proofs.Math.ListN.{get_or-append}
 use Rattle.lists.specs.AndLaws.{and_left, and_both}
@@ -14,10 +15,8 @@ use Rattle.lines.specs.Words.{every}
 use Rattle.lines.specs.WordsLaws.{every_none, every_rest, every_front}
 use Rattle.lines.specs.Numbers.{zero_digit, is_digit, with_digit, value_after, is_numeral, is_negative, number_of, unsigned_of}
 use Rattle.lines.specs.Numbers.{magnitude_of}
-use Rattle.lines.specs.NumbersLaws.{digit_is, number_plain, unsigned_plain, signed_of}
+use Rattle.lines.specs.NumbersLaws.{digit_is, number_plain, unsigned_plain}
 use Rattle.lines.specs.Digits.{digit_for, digits_in, digits_of, digit_limit}
-use Rattle.lines.specs.declared.numbers.Number.TheVariants.{Of as Signed}
-use Rattle.lines.specs.declared.numbers.Unsigned.TheVariants.{Of}
 
 -- ---- how many steps are enough
 
@@ -140,17 +139,17 @@ numeral [] l h = absurd (omega arith)
 numeral (b ∷ bs) l h =
     let d = (every_front is_digit b bs h).0 in (h, ne_eqb b 45 (λ e. omega (arith, leb-true zero_digit b (and_left _ _ d))))
 
-magnitude_written : (most n : ℕ) → n ≤ most → magnitude_of most (digits_of n) ≡ Of n
+magnitude_written : (most n : ℕ) → n ≤ most → magnitude_of most (digits_of n) ≡ Some n
 unfolding magnitude_of
 magnitude_written most n l =
     let h = numeral (digits_of n) (digits_some n) (digits_every n) in
     rw (digits_value n, and_both _ _ h.0 (le-leb n most l))
 
-pub read_written : (most n : ℕ) → n ≤ most → unsigned_of most (digits_of n) ≡ Of n
+pub read_written : (most n : ℕ) → n ≤ most → unsigned_of most (digits_of n) ≡ Some n
 read_written most n l =
     unsigned_plain (digits_of n) (numeral (digits_of n) (digits_some n) (digits_every n)).1 most ∙ magnitude_written most n l
 
-pub read_signed : (n : ℕ) → n < 2 ^ 63 → number_of (digits_of n) ≡ Signed (pos n)
+pub read_signed : (n : ℕ) → n < 2 ^ 63 → number_of (digits_of n) ≡ Some (pos n)
 read_signed n l =
     number_plain (digits_of n) (numeral (digits_of n) (digits_some n) (digits_every n)).1
-    ∙ ap (signed_of pos) (magnitude_written (2 ^ 63 - 1) n (omega arith))
+    ∙ ap (option_map pos) (magnitude_written (2 ^ 63 - 1) n (omega arith))

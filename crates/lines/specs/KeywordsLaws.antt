@@ -1,16 +1,16 @@
 -- Laws of the words that the desk knows.
---     among_none, among_here, among_on   a word's place among others, as a walk along them finds it
---     look_up_at, look_up_none, past     by that place, what stands beside the word in a table
+--     among_none, among_here, among_on           a word's place among others, as a walk along them finds it
+--     by_place, look_up_at, look_up_none, past   by that place, what stands beside the word in a table
 -- Assumes nothing.
-use Rattle.std.specs.Prelude.{◌≡◌, Bool, length}
+use Rattle.std.specs.Prelude.{◌≡◌, Bool, length, Some, None, slice_get}
 use Rattle.std.proofs.Math.Path.{refl}
 use Rattle.std.proofs.Common.{sym, ap, ◌∙◌, arith}
 use Rattle.std.proofs.Math.Bool.{true, false, cond}
 use mathlib.Core.List.{List, [], ◌∷◌, map}
 use Prim.Native.Nat.{ℕ, zero, suc, ◌≤◌}
 use Prim.Native.String.{String}
-use Rattle.std.proofs.Math.ListN.{get_or, get_or-eq_default}
 use Rattle.std.proofs.lemmas.List.{length-map}
+use Rattle.std.proofs.lemmas.Option.{slice_get_past}
 use Rattle.bytes_equal.specs.Bytes.{same_bytes}
 use Rattle.lines.specs.Text.{bytes_of}
 use Rattle.lines.specs.Keywords.{place_among, look_up}
@@ -28,7 +28,7 @@ pub among_none : (w : List ℕ) → place_among w [] ≡ zero
 unfolding place_among
 among_none w = refl
 
-module _ {A : Type 0} (other : A) (w : List ℕ) where
+module _ {A : Type 0} (w : List ℕ) where
   -- the words of a table, and what stands beside them
   abbrev pub names : List (String × A) → List (List ℕ)
   names = map (λ (row : String × A). bytes_of row.0)
@@ -36,23 +36,23 @@ module _ {A : Type 0} (other : A) (w : List ℕ) where
   abbrev pub values : List (String × A) → List A
   values = map (λ (row : String × A). row.1)
 
-  by_place : (table : List (String × A)) → get_or (values table) (place_among w (names table)) other ≡ look_up table other w
+  pub by_place : (table : List (String × A)) → slice_get (values table) (place_among w (names table)) ≡ look_up table w
   unfolding place_among look_up
   by_place [] = refl
   by_place ((k, a) ∷ rest) = go (same_bytes w (bytes_of k)) (by_place rest)
     where
-      go : (t : Bool) → get_or (values rest) (place_among w (names rest)) other ≡ look_up rest other w
-          → get_or (a ∷ values rest) (cond t zero (suc (place_among w (names rest)))) other ≡ cond t a (look_up rest other w)
+      go : (t : Bool) → slice_get (values rest) (place_among w (names rest)) ≡ look_up rest w
+          → slice_get (a ∷ values rest) (cond t zero (suc (place_among w (names rest)))) ≡ cond t (Some a) (look_up rest w)
       go true ih = refl
       go false ih = ih
 
   module _ (table : List (String × A)) (place : ℕ) (told : place ≡ place_among w (names table)) where
-    pub look_up_at : (k : ℕ) → place ≡ k → get_or (values table) k other ≡ look_up table other w
-    look_up_at k e = ap (λ (i : ℕ). get_or (values table) i other) (sym e ∙ told) ∙ by_place table
+    pub look_up_at : (k : ℕ) → place ≡ k → slice_get (values table) k ≡ look_up table w
+    look_up_at k e = ap (slice_get (values table)) (sym e ∙ told) ∙ by_place table
 
-    pub look_up_none : length table ≤ place → other ≡ look_up table other w
+    pub look_up_none : length table ≤ place → None ≡ look_up table w
     look_up_none l =
-        sym (get_or-eq_default (values table) other (rw (length-map table (λ (row : String × A). row.1)) l)) ∙ look_up_at place refl
+        sym (slice_get_past (values table) place (rw (length-map table (λ (row : String × A). row.1)) l)) ∙ look_up_at place refl
 
 -- a place past k that is not k
 pub past : {k place : ℕ} → k ≤ place → (place ≡ k → ⊥) → suc k ≤ place

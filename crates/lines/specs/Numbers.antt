@@ -1,14 +1,11 @@
 -- What a word says as a number: an optional minus sign and decimal digits, at least one. Leading zeros and -0 are numbers.
 -- Laws in `NumbersLaws`. Assumes nothing: these are definitions.
 use Rattle.std.specs.Prelude.{Bool, false, cond, List, [], ◌∷◌, ℕ, ◌+◌, ◌*◌, ◌-◌, ◌^◌, eqb, leb, ℤ, pos, negsuc, neg_ℤ, nat_abs, drop}
+use Rattle.std.specs.Prelude.{Option, Some, None}
 use Rattle.std.specs.Int.Signed.{le_z}
 use Rattle.lists.specs.And.{◌and◌}
 use Rattle.lines.specs.Text.{minus}
 use Rattle.lines.specs.Words.{every}
-use Rattle.lines.specs.declared.numbers.Number.{Number}
-use Rattle.lines.specs.declared.numbers.Number.TheVariants.{Of, None}
-use Rattle.lines.specs.declared.numbers.Unsigned.{Unsigned}
-use Rattle.lines.specs.declared.numbers.Unsigned.TheVariants.{Of as OfUnsigned, None as NoUnsigned}
 
 -- ---- digits
 
@@ -57,18 +54,18 @@ unfoldable pub is_within : ℤ → ℤ → ℤ → Bool
 is_within least z most = le_z least z and le_z z most
 
 -- from -2^63 to 2^63 - 1
-unfoldable pub number_of : List ℕ → Number
-number_of w = cond (is_integer w and is_within (negsuc (2 ^ 63 - 1)) (integer_of w) (pos (2 ^ 63 - 1))) (Of (integer_of w)) None
+unfoldable pub number_of : List ℕ → Option ℤ
+number_of w = cond (is_integer w and is_within (negsuc (2 ^ 63 - 1)) (integer_of w) (pos (2 ^ 63 - 1))) (Some (integer_of w)) None
 
 -- from 0 to a limit: 2^64 - 1 for a stamp, 4,294,967,295 for an id. -0 is the number 0, so it lies in every such range.
-unfoldable pub unsigned_of : ℕ → List ℕ → Unsigned
+unfoldable pub unsigned_of : ℕ → List ℕ → Option ℕ
 unsigned_of most w =
-    cond (is_integer w and is_within (pos 0) (integer_of w) (pos most)) (OfUnsigned (nat_abs (integer_of w))) NoUnsigned
+    cond (is_integer w and is_within (pos 0) (integer_of w) (pos most)) (Some (nat_abs (integer_of w))) None
 
 -- digits worth v and one byte more, where that is a digit and the worth stays within a limit
-unfoldable pub step_of : ℕ → ℕ → ℕ → Unsigned
-step_of most v b = cond (is_digit b and leb (with_digit v b) most) (OfUnsigned (with_digit v b)) NoUnsigned
+unfoldable pub step_of : ℕ → ℕ → ℕ → Option ℕ
+step_of most v b = cond (is_digit b and leb (with_digit v b) most) (Some (with_digit v b)) None
 
 -- digits alone, worth a limit at the most
-unfoldable pub magnitude_of : ℕ → List ℕ → Unsigned
-magnitude_of most w = cond (is_numeral w and leb (value_after 0 w) most) (OfUnsigned (value_after 0 w)) NoUnsigned
+unfoldable pub magnitude_of : ℕ → List ℕ → Option ℕ
+magnitude_of most w = cond (is_numeral w and leb (value_after 0 w) most) (Some (value_after 0 w)) None

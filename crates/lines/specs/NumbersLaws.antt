@@ -23,10 +23,8 @@ use Rattle.lines.specs.Words.{every}
 use Rattle.lines.specs.WordsLaws.{every_none, every_first, every_rest}
 use Rattle.lines.specs.Numbers.{is_digit, with_digit, value_after, is_numeral, is_negative, is_integer, integer_of, is_within}
 use Rattle.lines.specs.Numbers.{zero_digit, number_of, unsigned_of, step_of, magnitude_of}
-use Rattle.lines.specs.declared.numbers.Number.{Number}
-use Rattle.lines.specs.declared.numbers.Number.TheVariants.{Of as Signed, None as NoNumber}
-use Rattle.lines.specs.declared.numbers.Unsigned.{Unsigned}
-use Rattle.lines.specs.declared.numbers.Unsigned.TheVariants.{Of, None}
+use Rattle.std.specs.Prelude.{Option, Some, None}
+use Rattle.std.specs.Option.{option_map}
 
 -- ---- one digit more
 
@@ -52,7 +50,7 @@ module _ (most v b : ℕ) where
   unfolding step_of
   step_past l = rw (and_second (is_digit b) (leb (with_digit v b) most) (lt-leb (with_digit v b) most l))
 
-  pub step_of_lem : is_digit b ≡ true → with_digit v b ≤ most → step_of most v b ≡ Of (with_digit v b)
+  pub step_of_lem : is_digit b ≡ true → with_digit v b ≤ most → step_of most v b ≡ Some (with_digit v b)
   unfolding step_of
   step_of_lem e l = rw (and_both (is_digit b) (leb (with_digit v b) most) e (le-leb (with_digit v b) most l))
 
@@ -62,11 +60,11 @@ module _ (most v b : ℕ) where
     pub worth : with_digit v b ≡ u
     pub within : u ≤ most
 
-  pub step_made : (u : ℕ) → step_of most v b ≡ Of u → Step u
+  pub step_made : (u : ℕ) → step_of most v b ≡ Some u → Step u
   unfolding step_of
   step_made u h = go (is_digit b and leb (with_digit v b) most) refl h
     where
-      go : (t : Bool) → (is_digit b and leb (with_digit v b) most) ≡ t → cond t (Of (with_digit v b)) None ≡ Of u → Step u
+      go : (t : Bool) → (is_digit b and leb (with_digit v b) most) ≡ t → cond t (Some (with_digit v b)) None ≡ Some u → Step u
       go true e h =
           let w : with_digit v b ≡ u = cc in
           let l = leb-true (with_digit v b) most (and_right (is_digit b) _ e) in
@@ -82,8 +80,8 @@ grows [] v = omega arith
 grows (b ∷ bs) v = omega (arith, grows bs (with_digit v b))
 
 -- digits behind others worth v, that are worth the limit at the most
-unfoldable pub after_of : ℕ → ℕ → List ℕ → Unsigned
-after_of most v bs = cond (every is_digit bs and leb (value_after v bs) most) (Of (value_after v bs)) None
+unfoldable pub after_of : ℕ → ℕ → List ℕ → Option ℕ
+after_of most v bs = cond (every is_digit bs and leb (value_after v bs) most) (Some (value_after v bs)) None
 
 module _ (most : ℕ) where
   pub after_start : (w : List ℕ) → 0 < length w → magnitude_of most w ≡ after_of most 0 w
@@ -96,12 +94,12 @@ module _ (most : ℕ) where
   after_empty [] l = rw (and_first false (leb (value_after 0 []) most) refl)
   after_empty (b ∷ bs) l = absurd (omega arith)
 
-  after_end : (v : ℕ) → v ≤ most → after_of most v [] ≡ Of v
+  after_end : (v : ℕ) → v ≤ most → after_of most v [] ≡ Some v
   unfolding after_of value_after
   after_end v l = rw (and_both (every is_digit []) (leb v most) (every_none is_digit) (le-leb v most l))
 
   module _ (v b : ℕ) (bs : List ℕ) where
-    after_more : (u : ℕ) → step_of most v b ≡ Of u → after_of most v (b ∷ bs) ≡ after_of most u bs
+    after_more : (u : ℕ) → step_of most v b ≡ Some u → after_of most v (b ∷ bs) ≡ after_of most u bs
     unfolding after_of value_after
     after_more u h = let s = step_made most v b u h in rw (every_rest is_digit b bs s.digit, s.worth)
 
@@ -110,7 +108,7 @@ module _ (most : ℕ) where
     after_none h = go (is_digit b) refl (dec_lt most (with_digit v b))
       where
         go : (t : Bool) → is_digit b ≡ t → Dec (most < with_digit v b)
-            → cond (every is_digit (b ∷ bs) and leb (value_after (with_digit v b) bs) most) (Of (value_after (with_digit v b) bs)) None
+            → cond (every is_digit (b ∷ bs) and leb (value_after (with_digit v b) bs) most) (Some (value_after (with_digit v b) bs)) None
             ≡ None
         go false e d = rw (and_first _ (leb (value_after (with_digit v b) bs) most) (every_first is_digit b bs e))
         go true e (yes l) =
@@ -121,23 +119,19 @@ module _ (most : ℕ) where
 
 -- as a loop reads a word from place i on
 module _ (most v : ℕ) (w : List ℕ) (i : ℕ) where
-  pub after_read : (u : ℕ) → i < length w → step_of most v (get_or w i 0) ≡ Of u
+  pub after_read : (u : ℕ) → i < length w → step_of most v (get_or w i 0) ≡ Some u
       → after_of most v (drop i w) ≡ after_of most u (drop (i + 1) w)
   after_read u l h = rw (add-one, drop-cons w i 0 l) (after_more most v (get_or w i 0) (drop (suc i) w) u h)
 
   pub after_stop : i < length w → step_of most v (get_or w i 0) ≡ None → after_of most v (drop i w) ≡ None
   after_stop l h = rw (drop-cons w i 0 l) (after_none most v (get_or w i 0) (drop (suc i) w) h)
 
-  pub after_whole : length w ≤ i → v ≤ most → after_of most v (drop i w) ≡ Of v
+  pub after_whole : length w ≤ i → v ≤ most → after_of most v (drop i w) ≡ Some v
   after_whole l m = rw (drop_of_length-le w l) (after_end most v m)
 
 -- ---- a word by its sign and its magnitude
 
--- a magnitude as a signed number
-abbrev pub signed_of : (ℕ → ℤ) → Unsigned → Number
-signed_of f (Of m) = Signed (f m)
-signed_of f None = NoNumber
-
+-- a magnitude as a number below zero
 abbrev below : ℕ → ℤ
 below m = neg_ℤ (pos m)
 
@@ -165,12 +159,12 @@ signed_minus (suc v) = and_true (leb v (2 ^ 63 - 1)) ∙ go (dec_lt (2 ^ 63 - 1)
     go (no n) = le-leb v (2 ^ 63 - 1) (omega (arith, n)) ∙ sym (le-leb (suc v) (2 ^ 63) (omega (arith, n)))
 
 module _ (w : List ℕ) (sign : is_negative w ≡ true) where
-  pub number_minus : number_of w ≡ signed_of below (magnitude_of (2 ^ 63) (drop 1 w))
+  pub number_minus : number_of w ≡ option_map below (magnitude_of (2 ^ 63) (drop 1 w))
   unfolding number_of magnitude_of is_integer integer_of
   number_minus = rw (sign, signed_minus (value_after 0 (drop 1 w))) (go (is_numeral (drop 1 w) and leb (value_after 0 (drop 1 w)) (2 ^ 63)))
     where
-      go : (t : Bool) → cond t (Signed (below (value_after 0 (drop 1 w)))) NoNumber
-          ≡ signed_of below (cond t (Of (value_after 0 (drop 1 w))) None)
+      go : (t : Bool) → cond t (Some (below (value_after 0 (drop 1 w)))) None
+          ≡ option_map below (cond t (Some (value_after 0 (drop 1 w))) None)
       go true = refl
       go false = refl
 
@@ -184,11 +178,11 @@ module _ (w : List ℕ) (sign : is_negative w ≡ true) where
       abs (suc v) = refl
 
 module _ (w : List ℕ) (sign : is_negative w ≡ false) where
-  pub number_plain : number_of w ≡ signed_of pos (magnitude_of (2 ^ 63 - 1) w)
+  pub number_plain : number_of w ≡ option_map pos (magnitude_of (2 ^ 63 - 1) w)
   unfolding number_of magnitude_of is_integer integer_of
   number_plain = rw (sign, signed_plain (value_after 0 w)) (go (is_numeral w and leb (value_after 0 w) (2 ^ 63 - 1)))
     where
-      go : (t : Bool) → cond t (Signed (pos (value_after 0 w))) NoNumber ≡ signed_of pos (cond t (Of (value_after 0 w)) None)
+      go : (t : Bool) → cond t (Some (pos (value_after 0 w))) None ≡ option_map pos (cond t (Some (value_after 0 w)) None)
       go true = refl
       go false = refl
 
@@ -197,11 +191,11 @@ module _ (w : List ℕ) (sign : is_negative w ≡ false) where
   unsigned_plain most = rw (sign, range_plain (value_after 0 w) most)
 
 -- what was read is within its limit
-pub magnitude_within : (most : ℕ) (w : List ℕ) (m : ℕ) → magnitude_of most w ≡ Of m → m ≤ most
+pub magnitude_within : (most : ℕ) (w : List ℕ) (m : ℕ) → magnitude_of most w ≡ Some m → m ≤ most
 unfolding magnitude_of
 magnitude_within most w m h = go (is_numeral w and leb (value_after 0 w) most) refl h
   where
-    go : (t : Bool) → (is_numeral w and leb (value_after 0 w) most) ≡ t → cond t (Of (value_after 0 w)) None ≡ Of m → m ≤ most
+    go : (t : Bool) → (is_numeral w and leb (value_after 0 w) most) ≡ t → cond t (Some (value_after 0 w)) None ≡ Some m → m ≤ most
     go true e h = let v : value_after 0 w ≡ m = cc in omega (arith, leb-true (value_after 0 w) most (and_right (is_numeral w) _ e))
     go false e h = absurd (let z : ◌≡◌ {A = ℕ} 0 1 = cc in omega arith)
 
@@ -210,11 +204,11 @@ unfolding is_within
 within_fits (pos n) h = record { sfits = omega (arith, leb-true n (2 ^ 63 - 1) (and_right true _ h)) }
 within_fits (negsuc n) h = record { sfits = omega (arith, leb-true n (2 ^ 63 - 1) (and_left _ true h)) }
 
-pub number_fits : (w : List ℕ) (z : ℤ) → number_of w ≡ Signed z → SFits w64 z
+pub number_fits : (w : List ℕ) (z : ℤ) → number_of w ≡ Some z → SFits w64 z
 unfolding number_of
 number_fits w z h = go (is_integer w and is_within (negsuc (2 ^ 63 - 1)) (integer_of w) (pos (2 ^ 63 - 1))) refl h
   where
     go : (t : Bool) → (is_integer w and is_within (negsuc (2 ^ 63 - 1)) (integer_of w) (pos (2 ^ 63 - 1))) ≡ t
-        → cond t (Signed (integer_of w)) NoNumber ≡ Signed z → SFits w64 z
+        → cond t (Some (integer_of w)) None ≡ Some z → SFits w64 z
     go true e h = let v : integer_of w ≡ z = cc in subst (SFits w64) v (within_fits (integer_of w) (and_right (is_integer w) _ e))
     go false e h = absurd (let k : ◌≡◌ {A = ℕ} 0 1 = cc in omega arith)

@@ -4,7 +4,7 @@
 --     row_none, places_none                   it is none
 --     row_full, places_full                   there is no place for it
 -- Assumes nothing.
-use Rattle.std.specs.Prelude.{◌≡◌, List, [], ◌∷◌, leb, ℤ, set}
+use Rattle.std.specs.Prelude.{◌≡◌, List, [], ◌∷◌, leb, ℤ, set, Some, None}
 use Rattle.std.proofs.Math.Path.{refl}
 use Rattle.std.proofs.Math.Bool.{false}
 use Prim.Native.Nat.{ℕ, suc, ◌+◌, ◌≤◌}
@@ -18,34 +18,32 @@ use Rattle.std.proofs.Math.Seq.{set_out}
 use Rattle.lists.specs.AndLaws.{and_first, and_second, and_both}
 use Rattle.lines.specs.Numbers.{number_of}
 use Rattle.lines.specs.Rows.{before, leading, row_from}
-use Rattle.lines.specs.declared.numbers.Number.TheVariants.{Of, None}
-use Rattle.lines.specs.declared.rows.Row.TheVariants.{Count, Refused}
 
 leading_cons : (w : List ℕ) (ws : List (List ℕ)) → leading (w ∷ ws) ≡ before (number_of w) (leading ws)
 unfolding leading
 leading_cons w ws = refl
 
 module _ (room count : ℕ) where
-  pub row_done : count ≤ room → row_from room count [] ≡ Count count
+  pub row_done : count ≤ room → row_from room count [] ≡ Some count
   unfolding row_from leading
   row_done l =
       let e : count + 0 ≡ count = omega arith in
       rw (e, and_both (eqb 0 0) (leb count room) (eq-eqb 0 0 refl) (le-leb count room l))
 
   module _ (w : List ℕ) (ws : List (List ℕ)) where
-    pub row_more : (z : ℤ) → number_of w ≡ Of z → row_from room count (w ∷ ws) ≡ row_from room (count + 1) ws
+    pub row_more : (z : ℤ) → number_of w ≡ Some z → row_from room count (w ∷ ws) ≡ row_from room (count + 1) ws
     unfolding row_from
     row_more z h =
         let e : count + suc (length ws) ≡ count + 1 + length ws = omega arith in
         rw (leading_cons w ws, h, eqb-suc-suc (length (leading ws)) (length ws), e)
 
-    pub row_none : number_of w ≡ None → row_from room count (w ∷ ws) ≡ Refused
+    pub row_none : number_of w ≡ None → row_from room count (w ∷ ws) ≡ None
     unfolding row_from
     row_none h =
         let more : eqb 0 (suc (length ws)) ≡ false = ne_eqb 0 (suc (length ws)) (λ e. omega arith) in
         rw (leading_cons w ws, h, and_first (eqb 0 (suc (length ws))) (leb (count + suc (length ws)) room) more)
 
-    pub row_full : room ≤ count → row_from room count (w ∷ ws) ≡ Refused
+    pub row_full : room ≤ count → row_from room count (w ∷ ws) ≡ None
     unfolding row_from
     row_full l =
         rw (and_second (eqb (length (leading (w ∷ ws))) (suc (length ws))) _ (lt-leb (count + suc (length ws)) room (omega arith)))
@@ -56,7 +54,7 @@ module _ (out : List ℤ) (count : ℕ) where
   places_done = refl
 
   module _ (w : List ℕ) (ws : List (List ℕ)) where
-    pub places_more : (z : ℤ) → number_of w ≡ Of z → sets out count (leading (w ∷ ws)) ≡ sets (set out count z) (count + 1) (leading ws)
+    pub places_more : (z : ℤ) → number_of w ≡ Some z → sets out count (leading (w ∷ ws)) ≡ sets (set out count z) (count + 1) (leading ws)
     places_more z h = rw (leading_cons w ws, h, add-one)
 
     pub places_none : number_of w ≡ None → sets out count (leading (w ∷ ws)) ≡ out

@@ -1,13 +1,11 @@
 // The words that the desk knows.
-ghost use Rattle.std.specs.Prelude.{◌≡◌};
-ghost use Rattle.lines.specs.Words.{words_of};
+ghost use Rattle.std.specs.Prelude.{◌≡◌, map, slice_get};
 ghost use Rattle.lines.specs.Keywords.{place_among, command_of, kind_of, truth_of};
 
-use crate::word_end;
 use bytes_equal::same_bytes;
 
 // What the first word of a line asks for.
-#[derive(Clone, Copy)]
+#[derive(Debug, Clone, Copy, PartialEq, Eq)]
 pub enum Command {
     Open,
     Insert,
@@ -18,11 +16,10 @@ pub enum Command {
     Dated,
     Search,
     Repeat,
-    Unknown,
 }
 
 // What kind of value follows.
-#[derive(Clone, Copy)]
+#[derive(Debug, Clone, Copy, PartialEq, Eq)]
 pub enum Kind {
     Undefined,
     Boolean,
@@ -31,80 +28,57 @@ pub enum Kind {
     String,
     Integers,
     Strings,
-    Unknown,
 }
 
-#[derive(Clone, Copy)]
-pub enum Truth {
-    True,
-    False,
-    Unknown,
-}
+// The words, each with what it stands for.
+const COMMANDS: [(&[u8], Command); 9] = [
+    (b"open", Command::Open),
+    (b"insert", Command::Insert),
+    (b"delete", Command::Delete),
+    (b"room", Command::Room),
+    (b"event", Command::Event),
+    (b"set", Command::Set),
+    (b"dated", Command::Dated),
+    (b"search", Command::Search),
+    (b"repeat", Command::Repeat),
+];
 
-// The number of a word among the words of a list, or how many these are where it is none of them.
-fn place_among(word: &[u8], names: &[u8]) -> usize
-    ensures { result ≡ place_among word.now (words_of names.now) }
+const KINDS: [(&[u8], Kind); 7] = [
+    (b"boolean", Kind::Boolean),
+    (b"integer", Kind::Integer),
+    (b"float", Kind::Float),
+    (b"string", Kind::String),
+    (b"integers", Kind::Integers),
+    (b"strings", Kind::Strings),
+    (b"undefined", Kind::Undefined),
+];
+
+const TRUTHS: [(&[u8], bool); 2] = [(b"true", true), (b"false", false)];
+
+// What stands beside the word in a table.
+fn look_up<T: Copy>(table: &[(&[u8], T)], word: &[u8]) -> Option<T>
+    ensures { result ≡ slice_get (map (λ row. row.1) table.entry.now) (place_among word.now (map (λ row. row.0.now) table.entry.now)) }
 {
-    let mut at = 0;
-    let mut place = 0;
-    while at <= names.len() {
-        let end = word_end(names, at);
-        if same_bytes(word, &names[at..end]) {
-            return place;
-        }
-        at = end + 1;
-        place += 1;
-    }
-    place
+    table
+        .iter()
+        .find(|row| same_bytes(word, row.0))
+        .map(|row| row.1)
 }
 
-pub fn command_of(word: &[u8]) -> Command
+pub fn command_of(word: &[u8]) -> Option<Command>
     ensures { result ≡ command_of word.now }
 {
-    let place = place_among(
-        word,
-        b"open insert delete room event set dated search repeat",
-    );
-    match place {
-        0 => Command::Open,
-        1 => Command::Insert,
-        2 => Command::Delete,
-        3 => Command::Room,
-        4 => Command::Event,
-        5 => Command::Set,
-        6 => Command::Dated,
-        7 => Command::Search,
-        8 => Command::Repeat,
-        _ => Command::Unknown,
-    }
+    look_up(&COMMANDS, word)
 }
 
-pub fn kind_of(word: &[u8]) -> Kind
+pub fn kind_of(word: &[u8]) -> Option<Kind>
     ensures { result ≡ kind_of word.now }
 {
-    let place = place_among(
-        word,
-        b"boolean integer float string integers strings undefined",
-    );
-    match place {
-        0 => Kind::Boolean,
-        1 => Kind::Integer,
-        2 => Kind::Float,
-        3 => Kind::String,
-        4 => Kind::Integers,
-        5 => Kind::Strings,
-        6 => Kind::Undefined,
-        _ => Kind::Unknown,
-    }
+    look_up(&KINDS, word)
 }
 
-pub fn truth_of(word: &[u8]) -> Truth
+pub fn truth_of(word: &[u8]) -> Option<bool>
     ensures { result ≡ truth_of word.now }
 {
-    let place = place_among(word, b"true false");
-    match place {
-        0 => Truth::True,
-        1 => Truth::False,
-        _ => Truth::Unknown,
-    }
+    look_up(&TRUTHS, word)
 }

@@ -18,25 +18,14 @@ pub const WORD_LIMIT: usize = 64;
 // The most bytes of a line, its newline not counted.
 pub const LINE_LIMIT: usize = 65536;
 
-// What looking for a byte gives.
-#[derive(Clone, Copy)]
-pub enum Found {
-    At(usize),
-    Nothing,
-}
-
 // The place of the first such byte, or the length where there is none.
 fn place_of(bytes: &[u8], byte: u8) -> usize
     ensures { result ≡ place_of byte bytes.now }
 {
-    let mut i = 0;
-    while i < bytes.len() {
-        if bytes[i] == byte {
-            return i;
-        }
-        i += 1;
-    }
-    i
+    bytes
+        .iter()
+        .position(|other| *other == byte)
+        .unwrap_or(bytes.len())
 }
 
 // Where the word that begins at `at` ends: at the next space, or with the line.
@@ -60,50 +49,26 @@ pub fn line_end(buffer: &[u8], from: usize, to: usize) -> usize
 fn is_word(word: &[u8]) -> bool
     ensures { result ≡ is_word word.now }
 {
-    if word.len() < 1 {
-        return false;
-    }
-    word.len() <= WORD_LIMIT
+    (1..=WORD_LIMIT).contains(&word.len())
 }
 
 // Whether it is a line: words between single spaces, within the limits.
 pub fn is_line(line: &[u8]) -> bool
     ensures { result ≡ is_line line.now }
 {
-    if LINE_LIMIT < line.len() {
-        return false;
-    }
-    let mut at = 0;
-    while at <= line.len() {
-        let end = word_end(line, at);
-        if !is_word(&line[at..end]) {
-            return false;
-        }
-        at = end + 1;
-    }
-    true
+    line.len() <= LINE_LIMIT && line.split(|byte| *byte == b' ').all(is_word)
 }
 
 // Whether the line asks for nothing: it is empty, or begins with #.
 pub fn is_silent(line: &[u8]) -> bool
     ensures { result ≡ is_silent line.now }
 {
-    if line.len() == 0 {
-        return true;
-    }
-    line[0] == b'#'
+    line.first().is_none_or(|first| *first == b'#')
 }
 
 // The place of the last colon of a word.
-pub fn last_colon(word: &[u8]) -> Found
+pub fn last_colon(word: &[u8]) -> Option<usize>
     ensures { result ≡ last_colon word.now }
 {
-    let mut i = word.len();
-    while 0 < i {
-        i -= 1;
-        if word[i] == b':' {
-            return Found::At(i);
-        }
-    }
-    Found::Nothing
+    word.iter().rposition(|byte| *byte == b':')
 }

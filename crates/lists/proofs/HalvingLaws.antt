@@ -1,16 +1,19 @@
--- Halving a list that ascends strictly: what is known of the places outside the two bounds. Assumes nothing.
-use mathlib.Core.Path.{◌≡◌, refl, sym}
+-- Membership in a list that ascends strictly, and what a search by halving says of it. Assumes nothing.
+use mathlib.Core.Path.{◌≡◌, refl, sym, ◌∙◌}
 use mathlib.Core.Bool.{true, false, or-true}
 use mathlib.Core.List.{List, [], ◌∷◌}
-use Prim.Native.Nat.{ℕ, zero, suc, ◌+◌, ◌-◌, ◌/◌, ◌<◌, ◌≤◌}
+use Prim.Native.Nat.{ℕ, zero, suc, ◌-◌, ◌<◌, ◌≤◌}
 use native.Mathlib.Nat.{le_of_suc-le-suc}
 use native.Mathlib.Decide.{dec_lt}
 use native.Mathlib.Omega.{arith}
 use lib.ListN.{length}
 use lib.IntN.{ℤ}
 use lib.Signed.{lt_z}
+use Rattle.std.proofs.Common.{Result, Ok, Err, Ordering, Less, Equal, Greater, int_cmp}
+use Rattle.std.specs.Prelude.{is_ok}
 use Rattle.lists.specs.Sets.{eq_z, within, ascends}
-use Rattle.lists.proofs.IntegerLaws.{lt_z_trans, below_differs, above_differs, neither_below}
+use Rattle.lists.specs.Searching.{Parted, Searched}
+use Rattle.lists.proofs.IntegerLaws.{eq_z_sym, lt_z_trans, below_differs, above_differs, cmp_less, cmp_equal, cmp_greater}
 use Rattle.lists.proofs.SetsLaws.{ascends_first, ascends_rest}
 use Rattle.lists.proofs.Items.{item}
 
@@ -39,59 +42,39 @@ a_place x [] k lt e = absurd (omega arith)
 a_place x (y ∷ l) zero lt e = rw e
 a_place x (y ∷ l) (suc k) lt e = rw (a_place x l k (le_of_suc-le-suc lt) e) (or-true (eq_z x y))
 
--- the places before `low` hold less than x, those from `high` on more
-pub record Between (x : ℤ) (l : List ℤ) (low high : ℕ) : Type 0 where
-  pub ordered : low ≤ high
-  pub top : high ≤ length l
-  pub under : (k : ℕ) → k < low → lt_z (item l k) x ≡ true
-  pub over : (k : ℕ) → high ≤ k → k < length l → lt_z x (item l k) ≡ true
+module _ (x : ℤ) (l : List ℤ) (up : ascends l ≡ true) where
+  -- an element up to one below x is below x, and one from an element above x on is above x
+  under : (k j : ℕ) → k ≤ j → j < length l → lt_z (item l j) x ≡ true → lt_z (item l k) x ≡ true
+  under k j h b e =
+      elim (dec_lt k j) [
+        | yes u ↦ lt_z_trans (item l k) (item l j) x (by_places l up k j u b) e
+        | no n ↦ let same : k ≡ j = omega (arith, n) in rw same e
+      ]
 
-pub whole : (x : ℤ) (l : List ℤ) → Between x l 0 (length l)
-whole x l =
-    record {
-      ordered = omega arith;
-      top = omega arith;
-      under = λ k h. absurd (omega arith);
-      over = λ k h m. absurd (omega arith);
-    }
+  over : (j k : ℕ) → j ≤ k → k < length l → lt_z x (item l j) ≡ true → lt_z x (item l k) ≡ true
+  over j k h b e =
+      elim (dec_lt j k) [
+        | yes u ↦ lt_z_trans x (item l j) (item l k) e (by_places l up j k u b)
+        | no n ↦ let same : k ≡ j = omega (arith, n) in rw same e
+      ]
 
-abbrev pub middle : ℕ → ℕ → ℕ
-middle low high = low + (high - low) / 2
+  module _ {says : ℕ → Ordering → Type 0} (compares : (k : ℕ) (o : Ordering) → says k o → o ≡ int_cmp (item l k) x) where
+    nowhere : (p : ℕ) → Parted says (length l) p → within x l ≡ false
+    nowhere p b =
+        no_place x l (λ k h.
+        elim (dec_lt k p) [
+          | yes u ↦
+              let less : says (p - 1) Less = b.less (p - 1) (omega arith) in
+              let below : lt_z (item l (p - 1)) x ≡ true = cmp_less (item l (p - 1)) x (compares (p - 1) Less less) in
+              above_differs x (item l k) (under k (p - 1) (omega arith) (omega (arith, b.bound)) below)
+          | no n ↦
+              let above : lt_z x (item l p) ≡ true = cmp_greater (item l p) x (compares p Greater (b.greater (omega (arith, n)))) in
+              below_differs x (item l k) (over p k (omega (arith, n)) h above)
+        ])
 
-module _ {x : ℤ} {l : List ℤ} {low high : ℕ} (a : ascends l ≡ true) (b : Between x l low high) (q : low < high) where
-  pub up : lt_z (item l (middle low high)) x ≡ true → Between x l (middle low high + 1) high
-  up h =
-      record {
-        ordered = omega arith;
-        top = b.top;
-        under = λ k m.
-            elim (dec_lt k (middle low high)) [
-              | yes u ↦ lt_z_trans (item l k) (item l (middle low high)) x (by_places l a k (middle low high) u (omega (arith, b.top))) h
-              | no n ↦ let e : k ≡ middle low high = omega (arith, n) in rw e h
-            ];
-        over = b.over;
-      }
-
-  pub down : lt_z x (item l (middle low high)) ≡ true → Between x l low (middle low high)
-  down h =
-      record {
-        ordered = omega arith;
-        top = omega (arith, b.top);
-        under = b.under;
-        over = λ k m lt.
-            elim (dec_lt (middle low high) k) [
-              | yes u ↦ lt_z_trans x (item l (middle low high)) (item l k) h (by_places l a (middle low high) k u lt)
-              | no n ↦ let e : k ≡ middle low high = omega (arith, n) in rw e h
-            ];
-      }
-
-  pub met : lt_z (item l (middle low high)) x ≡ false → lt_z x (item l (middle low high)) ≡ false → true ≡ within x l
-  met h k = sym (a_place x l (middle low high) (omega (arith, b.top)) (neither_below x (item l (middle low high)) k h))
-
-pub nowhere : {x : ℤ} {l : List ℤ} {low high : ℕ} → Between x l low high → high ≤ low → false ≡ within x l
-nowhere {x} {l} {low} b h =
-    sym (no_place x l (λ k m.
-    elim (dec_lt k low) [
-      | yes u ↦ above_differs x (item l k) (b.under k u)
-      | no n ↦ below_differs x (item l k) (b.over k (omega (arith, n)) m)
-    ]))
+    -- a search among the elements, each compared with x, finds a place where x is an element
+    pub searched : (r : Result ℕ ℕ) → Searched says (length l) r → is_ok r ≡ within x l
+    searched (Ok k) found =
+        let equal : eq_z (item l k) x ≡ true = cmp_equal (item l k) x (compares k Equal found.equal) in
+        sym (a_place x l k found.place (eq_z_sym x (item l k) ∙ equal))
+    searched (Err p) parted = sym (nowhere p parted)

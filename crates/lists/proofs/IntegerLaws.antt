@@ -1,8 +1,13 @@
 -- The order of the integers and their equality, both as tests: `eq_z a b` is true exactly where a ≡ b. Assumes nothing.
-use Rattle.std.specs.Prelude.{◌≡◌, refl, Bool, true, false, ℤ, pos, negsuc}
-use Rattle.std.proofs.Common.{sym, ap, ◌∙◌, arith, ltb-true, ltb-false, lt-ltb, eq-eqb, ne_eqb, eqb-true}
+use Rattle.std.specs.Prelude.{◌≡◌, refl, Bool, true, false, ◌<◌, ◌^◌, ℤ, pos, negsuc}
+use Rattle.std.proofs.Common.{Ordering, Less, Equal, Greater, int_cmp, sym, ap, ◌∙◌, arith, eq-eqb, eqb-true}
 use Rattle.std.proofs.lemmas.Bool.{false≢true}
+use Rattle.std.proofs.lemmas.Int.{ints}
 use Rattle.std.specs.Int.Signed.{lt_z}
+use lib.Signed.{mag}
+use Rattle.std.specs.Int.{w64}
+use mir.Val.{to_z, of_z}
+use mir.ValLaws.{to_z-of_z}
 use Rattle.lists.specs.Sets.{eq_z}
 
 pub eq_z_same : (a b : ℤ) → eq_z a b ≡ true → a ≡ b
@@ -29,32 +34,22 @@ eq_z_sym a b = go (eq_z a b) (eq_z b a) refl refl
     go false false e f = refl
 
 pub lt_z_trans : (a b c : ℤ) → lt_z a b ≡ true → lt_z b c ≡ true → lt_z a c ≡ true
-lt_z_trans (pos a) (pos b) (pos c) h k = lt-ltb a c (omega (arith, ltb-true a b h, ltb-true b c k))
-lt_z_trans (pos a) (pos b) (negsuc c) h k = k
-lt_z_trans (pos a) (negsuc b) c h k = absurd (false≢true h)
-lt_z_trans (negsuc a) (pos b) (pos c) h k = refl
-lt_z_trans (negsuc a) (pos b) (negsuc c) h k = absurd (false≢true k)
-lt_z_trans (negsuc a) (negsuc b) (pos c) h k = refl
-lt_z_trans (negsuc a) (negsuc b) (negsuc c) h k = lt-ltb c a (omega (arith, ltb-true b a h, ltb-true c b k))
+lt_z_trans a b c h k = grind (arith, ints)
 
 -- a number below or above another is not the same
 pub below_differs : (a b : ℤ) → lt_z a b ≡ true → eq_z a b ≡ false
-unfolding eq_z
-below_differs (pos a) (pos b) h = ne_eqb a b (λ e. omega (arith, ltb-true a b h))
-below_differs (pos a) (negsuc b) h = refl
-below_differs (negsuc a) (pos b) h = refl
-below_differs (negsuc a) (negsuc b) h = ne_eqb a b (λ e. omega (arith, ltb-true b a h))
+below_differs a b h = go (eq_z a b) refl
+  where
+    go : (t : Bool) → eq_z a b ≡ t → t ≡ false
+    go true e = let same : a ≡ b = eq_z_same a b e in grind (arith, ints)
+    go false e = refl
 
 pub above_differs : (a b : ℤ) → lt_z b a ≡ true → eq_z a b ≡ false
 above_differs a b h = eq_z_sym a b ∙ below_differs b a h
 
 -- two numbers of which neither is below the other are the same
 pub neither_below : (a b : ℤ) → lt_z a b ≡ false → lt_z b a ≡ false → eq_z a b ≡ true
-unfolding eq_z
-neither_below (pos a) (pos b) h k = eq-eqb a b (omega (arith, ltb-false a b h, ltb-false b a k))
-neither_below (pos a) (negsuc b) h k = absurd (false≢true (sym k))
-neither_below (negsuc a) (pos b) h k = absurd (false≢true (sym h))
-neither_below (negsuc a) (negsuc b) h k = eq-eqb a b (omega (arith, ltb-false b a h, ltb-false a b k))
+neither_below a b h k = same_eq_z a b (grind (arith, ints))
 
 -- a number that is neither another one nor above it is below it
 pub else_below : (a b : ℤ) → lt_z b a ≡ false → eq_z a b ≡ false → lt_z a b ≡ true
@@ -63,3 +58,23 @@ else_below a b h n = go (lt_z a b) refl
     go : (t : Bool) → lt_z a b ≡ t → t ≡ true
     go true e = refl
     go false e = sym n ∙ neither_below a b e h
+
+-- what each answer of a comparison says
+
+pub cmp_less : (a b : ℤ) → Less ≡ int_cmp a b → lt_z a b ≡ true
+cmp_less a b h = grind (arith, ints)
+
+pub cmp_greater : (a b : ℤ) → Greater ≡ int_cmp a b → lt_z b a ≡ true
+cmp_greater a b h = grind (arith, ints)
+
+pub cmp_equal : (a b : ℤ) → Equal ≡ int_cmp a b → eq_z a b ≡ true
+cmp_equal a b h = same_eq_z a b (grind (arith, ints))
+
+-- an element that a call handed back is told as the number that its bits stand for
+pub element_told : {x y : ℤ} → mag x < 2 ^ 63 → x ≡ y → to_z w64 (of_z w64 x) ≡ y
+element_told {x} f e = to_z-of_z w64 x (record { sfits = f }) ∙ e
+
+-- two elements, compared as they were handed back
+pub compared : {a b : ℤ} {o : Ordering} (x y : ℤ) → mag a < 2 ^ 63 → mag b < 2 ^ 63 → a ≡ x → b ≡ y
+    → o ≡ int_cmp (to_z w64 (of_z w64 a)) (to_z w64 (of_z w64 b)) → o ≡ int_cmp x y
+compared x y f g d e h = rw (element_told f d, element_told g e) at h

@@ -16,3 +16,4 @@ pub mod SortLaws
 pub mod TabulateLaws
 pub mod PairOrderLaws
 pub mod AscendsLaws
+pub mod SearchingLaws

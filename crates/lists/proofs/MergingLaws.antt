@@ -13,7 +13,9 @@ use lib.IntN.{ℤ, pos}
 use lib.Signed.{lt_z}
 use Rattle.lists.specs.Sets.{eq_z, within, shares, inside, ascends}
 use Rattle.lists.specs.BoolLaws.{or_left, or_right}
-use Rattle.lists.proofs.IntegerLaws.{eq_z_sym, eq_z_same, neither_below}
+use Rattle.std.proofs.Common.{Less, Equal, Greater, int_cmp, eqb, ne_eqb, eq-eqb}
+use native.Mathlib.Decide.{dec_lt}
+use Rattle.lists.proofs.IntegerLaws.{eq_z_sym, eq_z_same, neither_below, cmp_less, cmp_equal, cmp_greater}
 use Rattle.lists.proofs.SetsLaws.{ascends_rest, absent_below, absent_rest}
 use Rattle.lists.proofs.Items.{item}
 
@@ -83,28 +85,32 @@ module _ (l r : List ℤ) (i j : ℕ) (up : (ascends l ≡ true) × (ascends r �
   right_up : ascends (item r j ∷ drop (suc j) r) ≡ true
   right_up = rw (← drop-cons r j (pos 0) hj) (ascends_drop r j up.1)
 
-  pub skip_right : {f : List ℤ → List ℤ → Bool} → Merges f → lt_z (item r j) (item l i) ≡ true
+  pub skip_right : {f : List ℤ → List ℤ → Bool} → Merges f → Greater ≡ int_cmp (item l i) (item r j)
       → f (drop i l) (drop j r) ≡ f (drop i l) (drop (j + 1) r)
   skip_right m h =
+      let below : lt_z (item r j) (item l i) ≡ true = cmp_greater (item l i) (item r j) h in
       rw (add-one j, drop-cons l i (pos 0) hi, drop-cons r j (pos 0) hj)
-      (skip m (item l i ∷ drop (suc i) l) (item r j) (drop (suc j) r) (absent_below (item r j) (item l i) (drop (suc i) l) h left_up))
+      (skip m (item l i ∷ drop (suc i) l) (item r j) (drop (suc j) r) (absent_below (item r j) (item l i) (drop (suc i) l) below left_up))
 
-  pub shares_left : lt_z (item l i) (item r j) ≡ true → shares (drop i l) (drop j r) ≡ shares (drop (i + 1) l) (drop j r)
-  shares_left h = rw (add-one i, drop-cons l i (pos 0) hi, drop-cons r j (pos 0) hj) (shares_greater _ _ _ _ left_up right_up h)
+  pub shares_left : Less ≡ int_cmp (item l i) (item r j) → shares (drop i l) (drop j r) ≡ shares (drop (i + 1) l) (drop j r)
+  shares_left h =
+      rw (add-one i, drop-cons l i (pos 0) hi, drop-cons r j (pos 0) hj)
+      (shares_greater _ _ _ _ left_up right_up (cmp_less (item l i) (item r j) h))
 
-  pub shares_both : lt_z (item r j) (item l i) ≡ false → lt_z (item l i) (item r j) ≡ false → shares (drop i l) (drop j r) ≡ true
-  shares_both h k =
+  pub shares_both : Equal ≡ int_cmp (item l i) (item r j) → shares (drop i l) (drop j r) ≡ true
+  shares_both h =
       rw (drop-cons l i (pos 0) hi, drop-cons r j (pos 0) hj)
-      (shares_equal _ _ _ _ left_up right_up (neither_below (item l i) (item r j) k h))
+      (shares_equal _ _ _ _ left_up right_up (cmp_equal (item l i) (item r j) h))
 
-  pub inside_not : lt_z (item l i) (item r j) ≡ true → inside (drop i l) (drop j r) ≡ false
-  inside_not h = rw (drop-cons l i (pos 0) hi, drop-cons r j (pos 0) hj) (inside_greater _ _ _ _ left_up right_up h)
+  pub inside_not : Less ≡ int_cmp (item l i) (item r j) → inside (drop i l) (drop j r) ≡ false
+  inside_not h =
+      rw (drop-cons l i (pos 0) hi, drop-cons r j (pos 0) hj)
+      (inside_greater _ _ _ _ left_up right_up (cmp_less (item l i) (item r j) h))
 
-  pub inside_both : lt_z (item r j) (item l i) ≡ false → lt_z (item l i) (item r j) ≡ false
-      → inside (drop i l) (drop j r) ≡ inside (drop (i + 1) l) (drop (j + 1) r)
-  inside_both h k =
+  pub inside_both : Equal ≡ int_cmp (item l i) (item r j) → inside (drop i l) (drop j r) ≡ inside (drop (i + 1) l) (drop (j + 1) r)
+  inside_both h =
       rw (add-one j, add-one i, drop-cons l i (pos 0) hi, drop-cons r j (pos 0) hj)
-      (inside_equal _ _ _ _ left_up right_up (neither_below (item l i) (item r j) k h))
+      (inside_equal _ _ _ _ left_up right_up (cmp_equal (item l i) (item r j) h))
 
 -- where one of the two is at its end
 
@@ -121,13 +127,16 @@ module _ (l r : List ℤ) (i j : ℕ) where
   unfolding shares
   shares_end h = rw (drop_of_length-le l h)
 
-  pub inside_over : i < length l → length r ≤ j → inside (drop i l) (drop j r) ≡ false
+  -- once the left list is at its end, or else the right one, the left is inside where it is the one
+  pub inside_left : i ≤ length l → (i < length l → length r ≤ j) → eqb i (length l) ≡ inside (drop i l) (drop j r)
   unfolding inside within
-  inside_over h k = rw (drop-cons l i (pos 0) h, drop_of_length-le r k)
-
-  pub inside_end : length l ≤ i → inside (drop i l) (drop j r) ≡ true
-  unfolding inside
-  inside_end h = rw (drop_of_length-le l h)
+  inside_left k over =
+      elim (dec_lt i (length l)) [
+        | yes u ↦ rw (ne_eqb i (length l) (λ e. omega arith), drop-cons l i (pos 0) u, drop_of_length-le r (over u))
+        | no n ↦
+            let done : length l ≤ i = omega (arith, n) in
+            rw (eq-eqb i (length l) (omega arith), drop_of_length-le l done)
+      ]
 
 -- a longer list is not inside a shorter one
 pub longer : (l r : List ℤ) → (ascends l ≡ true) × (ascends r ≡ true) → length r < length l → inside l r ≡ false

@@ -17,3 +17,4 @@ pub mod First
 pub mod Sets
 pub mod Placing
 pub mod BoolLaws
+pub mod Searching

@@ -2,4 +2,3 @@ pub mod AmountLaws
 pub mod MeaningLaws
 pub mod Trials
 pub mod Deciding
-pub mod ElementLaws

@@ -8,6 +8,8 @@ use Rattle.std.specs.Prelude.{◌≡◌, refl, Bool, true, false, cond, not, Lis
 use Rattle.std.proofs.Common.{sym, ◌∙◌, arith}
 use Rattle.std.proofs.Math.Path.{ap, ap₂}
 use Rattle.std.proofs.Math.Bool.{◌||◌, or-false}
+use Rattle.std.proofs.Common.{Ordering, Less, Equal, Greater}
+use Rattle.std.specs.Ordering.{is_lt, is_le, is_eq, is_ne, is_ge, is_gt}
 use Rattle.decimals.specs.Decimals.{scale_limit, compare_of}
 use Rattle.evaluation.specs.declared.Truth.{Truth}
 use Rattle.evaluation.specs.declared.Truth.TheVariants.{False, Undefined, True}
@@ -28,7 +30,7 @@ use Rattle.predicates.specs.SuitsLaws.{suits_negated, suits_none, suits_tag}
 use Rattle.predicates.specs.EachKind.{each_kind}
 use Rattle.predicates.specs.Predicate.{Predicate}
 use Rattle.events.specs.Values.{value_number}
-use Rattle.predicates.specs.Meaning.{boolean_in, amount_in, amount_of, is_less, is_equal, is_greater, holds_of, asks_null}
+use Rattle.predicates.specs.Meaning.{boolean_in, amount_in, amount_of, holds_of, asks_null}
 use Rattle.predicates.specs.Meaning.{answers, truth_of, evaluate_of, literal_from, literal_of, says, negated_predicate}
 
 -- ---- negation
@@ -36,6 +38,36 @@ use Rattle.predicates.specs.Meaning.{answers, truth_of, evaluate_of, literal_fro
 not_not : (b : Bool) → b ≡ not (not b)
 not_not true = refl
 not_not false = refl
+
+not_lt : (o : Ordering) → is_ge o ≡ not (is_lt o)
+not_lt Less = refl
+not_lt Equal = refl
+not_lt Greater = refl
+
+not_le : (o : Ordering) → is_gt o ≡ not (is_le o)
+not_le Less = refl
+not_le Equal = refl
+not_le Greater = refl
+
+not_ge : (o : Ordering) → is_lt o ≡ not (is_ge o)
+not_ge Less = refl
+not_ge Equal = refl
+not_ge Greater = refl
+
+not_gt : (o : Ordering) → is_le o ≡ not (is_gt o)
+not_gt Less = refl
+not_gt Equal = refl
+not_gt Greater = refl
+
+not_eq : (o : Ordering) → is_ne o ≡ not (is_eq o)
+not_eq Less = refl
+not_eq Equal = refl
+not_eq Greater = refl
+
+not_ne : (o : Ordering) → is_eq o ≡ not (is_ne o)
+not_ne Less = refl
+not_ne Equal = refl
+not_ne Greater = refl
 
 truth_not : (a b : Bool) → truth_of a (not b) ≡ not_of (truth_of a b)
 truth_not false b = refl
@@ -53,8 +85,8 @@ module _ (i : Literal) (elements : List ℤ) (v : AttributeValue) (list : List �
       (record {
         variable = (refl, not_not (boolean_in v));
         set = (refl, not_not (within (amount_in v).number elements));
-        comparison = (refl, not_not (is_greater o), not_not (is_less o), refl);
-        equality = (refl, not_not (is_equal o));
+        comparison = (not_lt o, not_le o, not_ge o, not_gt o);
+        equality = (not_eq o, not_ne o);
         list = (refl, not_not (shares list elements), refl, not_not (inside list elements));
         null = (refl, not_not (eqb (value_number v) 0), refl, not_not (eqb (length list) 0));
       })

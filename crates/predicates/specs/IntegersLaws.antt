@@ -22,6 +22,8 @@ module _ (bytes : List ℕ) where
   integers_item k h =
       get_or_tabulate (length bytes / 8) (λ k. signed_word bytes (8 * k)) (pos 0) k (omega (arith, integers_length))
 
+pub ruleset element_laws = (integers_length, integers_item)
+
 -- ---- n elements from a place of longer bytes
 
 module _ (bytes : List ℕ) (at n : ℕ) (room : at + 8 * n ≤ length bytes) where

@@ -3,8 +3,8 @@
 -- Assumes nothing: these are definitions.
 use Rattle.std.specs.Prelude.{◌≡◌, Bool, true, false, cond, not, ◌||◌, List, ℕ, ◌≤◌, eqb, ℤ, pos, length}
 use Rattle.decimals.specs.declared.Decimal.{Decimal}
-use Rattle.decimals.specs.declared.Order.{Order}
-use Rattle.decimals.specs.declared.Order.TheVariants.{Less, Greater}
+use Rattle.std.specs.declared.cmp.Ordering.{Ordering}
+use Rattle.std.specs.Ordering.{is_lt, is_le, is_eq, is_ne, is_ge, is_gt}
 use Rattle.decimals.specs.Decimals.{scale_limit, compare_of}
 use Rattle.evaluation.specs.declared.Truth.{Truth}
 use Rattle.evaluation.specs.declared.Truth.TheVariants.{False, Undefined, True}
@@ -64,30 +64,15 @@ amount_of Literal.StringList = whole (pos 0)
 
 -- ---- the operators
 
-abbrev pub is_less : Order → Bool
-is_less Less = true
-is_less Order.Equal = false
-is_less Greater = false
+abbrev pub comparison_holds : ComparisonOperator → Ordering → Bool
+comparison_holds LessThan o = is_lt o
+comparison_holds LessThanEqual o = is_le o
+comparison_holds GreaterThanEqual o = is_ge o
+comparison_holds GreaterThan o = is_gt o
 
-abbrev pub is_equal : Order → Bool
-is_equal Less = false
-is_equal Order.Equal = true
-is_equal Greater = false
-
-abbrev pub is_greater : Order → Bool
-is_greater Less = false
-is_greater Order.Equal = false
-is_greater Greater = true
-
-abbrev pub comparison_holds : ComparisonOperator → Order → Bool
-comparison_holds LessThan o = is_less o
-comparison_holds LessThanEqual o = not (is_greater o)
-comparison_holds GreaterThanEqual o = not (is_less o)
-comparison_holds GreaterThan o = is_greater o
-
-abbrev pub equality_holds : EqualityOperator → Order → Bool
-equality_holds Equal o = is_equal o
-equality_holds NotEqual o = not (is_equal o)
+abbrev pub equality_holds : EqualityOperator → Ordering → Bool
+equality_holds Equal o = is_eq o
+equality_holds NotEqual o = is_ne o
 
 -- the value and the literal's elements
 abbrev pub set_holds : SetOperator → ℤ → List ℤ → Bool
@@ -119,13 +104,13 @@ holds_of (Equality o) i elements v list = equality_holds o (compare_of (amount_i
 holds_of (Lists o) i elements v list = list_holds o list elements
 holds_of (Null o) i elements v list = null_holds o v list
 
+-- is null and is not null ask of every value, undefined or not
 abbrev pub null_asked : NullOperator → Bool
 null_asked IsNull = true
 null_asked IsNotNull = true
 null_asked IsEmpty = false
 null_asked IsNotEmpty = false
 
--- is null and is not null ask of every value, undefined or not
 abbrev pub asks_null : PredicateKind → Bool
 asks_null Variable = false
 asks_null NegatedVariable = false

@@ -131,13 +131,9 @@ impl PredicateKind {
         ensures { result ≡ element_cost self }
     {
         match self {
-            PredicateKind::Variable => CONSTANT_COST,
-            PredicateKind::NegatedVariable => CONSTANT_COST,
             PredicateKind::Set(_) => LOGARITHMIC_COST,
-            PredicateKind::Comparison(_) => CONSTANT_COST,
-            PredicateKind::Equality(_) => CONSTANT_COST,
             PredicateKind::List(_) => LIST_COST,
-            PredicateKind::Null(_) => CONSTANT_COST,
+            _ => CONSTANT_COST,
         }
     }
 
@@ -149,7 +145,8 @@ impl PredicateKind {
     }
 }
 
-// The kind of a number, and is not empty where no kind has it.
+// The kind of a number, and is not empty where no kind has it: no Option, since the contract speaks of every number.
+#[tactic(auto, unfolding(crate::specs::Kinds::kind_of, crate::specs::Kinds::numbered, crate::specs::Kinds::kinds))]
 pub fn kind_of(number: u8) -> PredicateKind
     ensures { result ≡ kind_of number }
 {

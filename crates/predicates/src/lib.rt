@@ -14,13 +14,13 @@ pub use kinds::kind_of;
 pub use meaning::{evaluate, literal_of};
 pub use suiting::suits;
 
-#[derive(Clone, Copy)]
+#[derive(Clone, Copy, Debug, PartialEq, Eq)]
 pub enum SetOperator {
     NotIn,
     In,
 }
 
-#[derive(Clone, Copy)]
+#[derive(Clone, Copy, Debug, PartialEq, Eq)]
 pub enum ComparisonOperator {
     LessThan,
     LessThanEqual,
@@ -28,13 +28,13 @@ pub enum ComparisonOperator {
     GreaterThan,
 }
 
-#[derive(Clone, Copy)]
+#[derive(Clone, Copy, Debug, PartialEq, Eq)]
 pub enum EqualityOperator {
     Equal,
     NotEqual,
 }
 
-#[derive(Clone, Copy)]
+#[derive(Clone, Copy, Debug, PartialEq, Eq)]
 pub enum ListOperator {
     OneOf,
     NoneOf,
@@ -42,7 +42,7 @@ pub enum ListOperator {
     NotAllOf,
 }
 
-#[derive(Clone, Copy)]
+#[derive(Clone, Copy, Debug, PartialEq, Eq)]
 pub enum NullOperator {
     IsNull,
     IsNotNull,
@@ -50,7 +50,7 @@ pub enum NullOperator {
     IsNotEmpty,
 }
 
-#[derive(Clone, Copy)]
+#[derive(Clone, Copy, Debug, PartialEq, Eq)]
 pub enum PredicateKind {
     Variable,
     NegatedVariable,

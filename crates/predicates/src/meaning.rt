@@ -4,18 +4,19 @@ ghost use Rattle.std.specs.Prelude.{◌≡◌, true, ◌≤◌};
 ghost use Rattle.decimals.specs.Decimals.{scale_limit, compare_of};
 ghost use Rattle.lists.specs.Sets.{ascends};
 ghost use Rattle.predicates.specs.Integers.{integers_of};
-ghost use Rattle.events.specs.Values.{value_number};
-ghost use Rattle.predicates.specs.Meaning.{boolean_in, amount_in, amount_of, is_less, is_equal, is_greater};
+ghost use Rattle.predicates.specs.Meaning.{boolean_in, amount_in, amount_of};
 ghost use Rattle.predicates.specs.Meaning.{set_holds, comparison_holds, equality_holds, list_holds, null_holds, holds_of};
-ghost use Rattle.predicates.specs.Meaning.{null_asked, asks_null, answers, truth_of, evaluate_of, Ready, literal_from};
+ghost use Rattle.predicates.specs.Meaning.{asks_null, answers, evaluate_of, Ready, literal_from};
 
+use crate::elements::Stored;
 use crate::{
     ComparisonOperator, EqualityOperator, ListOperator, Literal, NullOperator, PredicateKind,
-    SetOperator, elements, suiting,
+    SetOperator, suiting,
 };
-use decimals::{Decimal, Order};
+use decimals::Decimal;
 use evaluation::Truth;
 use events::{AttributeValue, StringId};
+use std::cmp::Ordering;
 
 // What stands in a value or a literal that is no amount.
 const ZERO: Decimal = Decimal {
@@ -23,7 +24,8 @@ const ZERO: Decimal = Decimal {
     scale: 0,
 };
 
-// The literal of a tag, a number and a scale, as a book keeps them.
+// The literal of a tag, a number and a scale, as a book keeps them. The tag stays a number: the contract speaks of every number.
+#[tactic(auto, unfolding(crate::specs::Meaning::literal_from))]
 pub fn literal_of(tag: u8, number: i64, scale: u8) -> Literal
     ensures { result ≡ literal_from tag number scale }
 {
@@ -37,110 +39,43 @@ pub fn literal_of(tag: u8, number: i64, scale: u8) -> Literal
     }
 }
 
-// The number of a value's kind.
-fn value_number(value: AttributeValue) -> u8
-    ensures { result ≡ value_number value }
-{
-    match value {
-        AttributeValue::Undefined => events::UNDEFINED,
-        AttributeValue::Boolean(_) => events::BOOLEAN,
-        AttributeValue::Integer(_) => events::INTEGER,
-        AttributeValue::Float(_) => events::FLOAT,
-        AttributeValue::String(_) => events::STRING,
-        AttributeValue::IntegerList => events::INTEGER_LIST,
-        AttributeValue::StringList => events::STRING_LIST,
-    }
-}
-
 fn boolean_in(value: AttributeValue) -> bool
     ensures { result ≡ boolean_in value }
 {
-    match value {
-        AttributeValue::Undefined => false,
-        AttributeValue::Boolean(b) => b,
-        AttributeValue::Integer(_) => false,
-        AttributeValue::Float(_) => false,
-        AttributeValue::String(_) => false,
-        AttributeValue::IntegerList => false,
-        AttributeValue::StringList => false,
-    }
+    matches!(value, AttributeValue::Boolean(true))
 }
 
 fn amount_in(value: AttributeValue) -> Decimal
     ensures { result ≡ amount_in value }
 {
     match value {
-        AttributeValue::Undefined => ZERO,
-        AttributeValue::Boolean(_) => ZERO,
-        AttributeValue::Integer(x) => Decimal {
-            number: x,
-            scale: 0,
-        },
-        AttributeValue::Float(d) => d,
-        AttributeValue::String(w) => Decimal {
-            number: w.0,
-            scale: 0,
-        },
-        AttributeValue::IntegerList => ZERO,
-        AttributeValue::StringList => ZERO,
+        AttributeValue::Integer(number) | AttributeValue::String(StringId(number)) => {
+            Decimal { number, scale: 0 }
+        }
+        AttributeValue::Float(amount) => amount,
+        _ => ZERO,
     }
 }
 
+// Like `amount_in`, over an enum of its own: a trait for the two would still need both matches.
 fn amount_of(literal: Literal) -> Decimal
     ensures { result ≡ amount_of literal }
 {
     match literal {
-        Literal::Nothing => ZERO,
-        Literal::Integer(x) => Decimal {
-            number: x,
-            scale: 0,
-        },
-        Literal::Float(d) => d,
-        Literal::String(w) => Decimal {
-            number: w.0,
-            scale: 0,
-        },
-        Literal::IntegerList => ZERO,
-        Literal::StringList => ZERO,
+        Literal::Integer(number) | Literal::String(StringId(number)) => {
+            Decimal { number, scale: 0 }
+        }
+        Literal::Float(amount) => amount,
+        _ => ZERO,
     }
 }
 
 // How the value stands to the literal.
-fn order(value: AttributeValue, literal: Literal) -> Order
+fn order(value: AttributeValue, literal: Literal) -> Ordering
     requires { ((amount_in value).scale ≤ scale_limit) × ((amount_of literal).scale ≤ scale_limit) }
     ensures { result ≡ compare_of (amount_in value) (amount_of literal) }
 {
     decimals::compare(amount_in(value), amount_of(literal))
-}
-
-fn is_less(order: Order) -> bool
-    ensures { result ≡ is_less order }
-{
-    match order {
-        Order::Less => true,
-        Order::Equal => false,
-        Order::Greater => false,
-    }
-}
-
-fn is_equal(order: Order) -> bool
-    ensures { result ≡ is_equal order }
-{
-    match order {
-        Order::Less => false,
-        Order::Equal => true,
-        Order::Greater => false,
-    }
-}
-
-fn is_greater(order: Order) -> bool
-    ensures { result ≡ is_greater order }
-{
-    match order {
-        Order::Less => false,
-        Order::Equal => false,
-        Order::Greater => true,
-    }
 }
 
 impl SetOperator {
@@ -149,32 +84,32 @@ impl SetOperator {
         ensures { result ≡ set_holds self value (integers_of elements.now) }
     {
         match self {
-            SetOperator::In => elements::member(elements, value),
-            SetOperator::NotIn => !elements::member(elements, value),
+            SetOperator::In => lists::member(Stored(elements), value),
+            SetOperator::NotIn => !lists::member(Stored(elements), value),
         }
     }
 }
 
 impl ComparisonOperator {
-    fn holds(self, order: Order) -> bool
+    fn holds(self, order: Ordering) -> bool
         ensures { result ≡ comparison_holds self order }
     {
         match self {
-            ComparisonOperator::LessThan => is_less(order),
-            ComparisonOperator::LessThanEqual => !is_greater(order),
-            ComparisonOperator::GreaterThanEqual => !is_less(order),
-            ComparisonOperator::GreaterThan => is_greater(order),
+            ComparisonOperator::LessThan => order.is_lt(),
+            ComparisonOperator::LessThanEqual => order.is_le(),
+            ComparisonOperator::GreaterThanEqual => order.is_ge(),
+            ComparisonOperator::GreaterThan => order.is_gt(),
         }
     }
 }
 
 impl EqualityOperator {
-    fn holds(self, order: Order) -> bool
+    fn holds(self, order: Ordering) -> bool
         ensures { result ≡ equality_holds self order }
     {
         match self {
-            EqualityOperator::Equal => is_equal(order),
-            EqualityOperator::NotEqual => !is_equal(order),
+            EqualityOperator::Equal => order.is_eq(),
+            EqualityOperator::NotEqual => order.is_ne(),
         }
     }
 }
@@ -185,10 +120,10 @@ impl ListOperator {
         ensures { result ≡ list_holds self list.now (integers_of elements.now) }
     {
         match self {
-            ListOperator::OneOf => elements::one_of(list, elements),
-            ListOperator::NoneOf => !elements::one_of(list, elements),
-            ListOperator::AllOf => elements::all_of(list, elements),
-            ListOperator::NotAllOf => !elements::all_of(list, elements),
+            ListOperator::OneOf => lists::one_of(list, Stored(elements)),
+            ListOperator::NoneOf => !lists::one_of(list, Stored(elements)),
+            ListOperator::AllOf => lists::all_of(list, Stored(elements)),
+            ListOperator::NotAllOf => !lists::all_of(list, Stored(elements)),
         }
     }
 }
@@ -198,21 +133,10 @@ impl NullOperator {
         ensures { result ≡ null_holds self value list.now }
     {
         match self {
-            NullOperator::IsNull => value_number(value) == events::UNDEFINED,
-            NullOperator::IsNotNull => value_number(value) != events::UNDEFINED,
-            NullOperator::IsEmpty => list.len() == 0,
-            NullOperator::IsNotEmpty => list.len() != 0,
-        }
-    }
-
-    fn asks_null(self) -> bool
-        ensures { result ≡ null_asked self }
-    {
-        match self {
-            NullOperator::IsNull => true,
-            NullOperator::IsNotNull => true,
-            NullOperator::IsEmpty => false,
-            NullOperator::IsNotEmpty => false,
+            NullOperator::IsNull => matches!(value, AttributeValue::Undefined),
+            NullOperator::IsNotNull => !matches!(value, AttributeValue::Undefined),
+            NullOperator::IsEmpty => list.is_empty(),
+            NullOperator::IsNotEmpty => !list.is_empty(),
         }
     }
 }
@@ -221,26 +145,24 @@ impl PredicateKind {
     fn asks_null(self) -> bool
         ensures { result ≡ asks_null self }
     {
-        match self {
-            PredicateKind::Variable => false,
-            PredicateKind::NegatedVariable => false,
-            PredicateKind::Set(_) => false,
-            PredicateKind::Comparison(_) => false,
-            PredicateKind::Equality(_) => false,
-            PredicateKind::List(_) => false,
-            PredicateKind::Null(o) => o.asks_null(),
-        }
+        matches!(
+            self,
+            PredicateKind::Null(NullOperator::IsNull | NullOperator::IsNotNull)
+        )
     }
 }
 
 // Whether a predicate has an answer for the value.
+#[tactic(auto, unfolding(crate::specs::Meaning::answers))]
 fn has_answer(kind: PredicateKind, literal: Literal, value: AttributeValue) -> bool
     ensures { result ≡ answers kind literal value }
 {
-    suiting::either(
-        kind.asks_null(),
-        suiting::suits(kind, suiting::tag(literal), value_number(value)),
-    )
+    kind.asks_null()
+        || suiting::suits(
+            kind,
+            suiting::tag(literal),
+            events::kind_number(value.kind()),
+        )
 }
 
 // The answer, where there is one.
@@ -257,10 +179,7 @@ fn holds(
     match kind {
         PredicateKind::Variable => boolean_in(value),
         PredicateKind::NegatedVariable => !boolean_in(value),
-        PredicateKind::Set(o) => {
-            let amount = amount_in(value);
-            o.holds(amount.number, elements)
-        }
+        PredicateKind::Set(o) => o.holds(amount_in(value).number, elements),
         PredicateKind::Comparison(o) => o.holds(order(value, literal)),
         PredicateKind::Equality(o) => o.holds(order(value, literal)),
         PredicateKind::List(o) => o.holds(list, elements),
@@ -268,13 +187,9 @@ fn holds(
     }
 }
 
-fn truth(b: bool) -> Truth
-    ensures { result ≡ truth_of true b }
-{
-    if b { Truth::True } else { Truth::False }
-}
-
 // What a predicate says of a value. The elements of the literal's list are a part of a book's bytes.
+// The literal and the value each come with a list beside them: a struct of the two would serve this call alone, and be no plainer.
+#[tactic(auto, unfolding(crate::specs::Meaning::evaluate_of))]
 pub fn evaluate(
     kind: PredicateKind,
     literal: Literal,
@@ -285,8 +200,12 @@ pub fn evaluate(
     requires { Ready literal (integers_of elements.now) value list.now }
     ensures { result ≡ evaluate_of kind literal (integers_of elements.now) value list.now }
 {
-    if has_answer(kind, literal, value) {
-        return truth(holds(kind, literal, elements, value, list));
+    if !has_answer(kind, literal, value) {
+        return Truth::Undefined;
     }
-    Truth::Undefined
+    if holds(kind, literal, elements, value, list) {
+        Truth::True
+    } else {
+        Truth::False
+    }
 }

@@ -1,6 +1,6 @@
 // Which literals and which attributes suit which kind of predicate: what validate_predicate says in the Rust.
-ghost use Rattle.std.specs.Prelude.{◌≡◌, ◌||◌};
-ghost use Rattle.predicates.specs.Suits.{tag_of, pair, null_suits, suits_of};
+ghost use Rattle.std.specs.Prelude.{◌≡◌};
+ghost use Rattle.predicates.specs.Suits.{tag_of, suits_of};
 
 use crate::{Literal, NullOperator, PredicateKind};
 use attributes::AttributeKind as Kind;
@@ -19,76 +19,29 @@ pub fn tag(literal: Literal) -> u8
     }
 }
 
-pub fn either(a: bool, b: bool) -> bool
-    ensures { result ≡ (a || b) }
-{
-    if a { true } else { b }
-}
-
-// Whether a tag and the number of an attribute's kind are the wanted ones.
-fn pairs(tag: u8, attribute: u8, wanted: u8, kind: Kind) -> bool
-    ensures { result ≡ pair tag attribute wanted kind }
-{
-    if tag == wanted {
-        return attribute == attributes::kind_number(kind);
-    }
-    false
-}
-
-// Whether they are the first wanted ones or the second.
-fn pairs_either(tag: u8, attribute: u8, first: u8, one: Kind, second: u8, other: Kind) -> bool
-    ensures { result ≡ (pair tag attribute first one || pair tag attribute second other) }
-{
-    either(
-        pairs(tag, attribute, first, one),
-        pairs(tag, attribute, second, other),
-    )
-}
-
-fn null_suits(operator: NullOperator, tag: u8, attribute: u8) -> bool
-    ensures { result ≡ null_suits operator tag attribute }
-{
-    let scalar = either(
-        pairs_either(tag, attribute, 0, Kind::Boolean, 0, Kind::Integer),
-        pairs_either(tag, attribute, 0, Kind::Float, 0, Kind::String),
-    );
-    let list = pairs_either(tag, attribute, 0, Kind::IntegerList, 0, Kind::StringList);
-    match operator {
-        NullOperator::IsNull => scalar,
-        NullOperator::IsNotNull => scalar,
-        NullOperator::IsEmpty => list,
-        NullOperator::IsNotEmpty => list,
-    }
-}
-
 // Whether a literal, by its tag, and an attribute, by the number of its kind, suit the kind of predicate.
+// Both stay numbers: the contract speaks of every number, and a rule sheet may hold any.
+#[tactic(auto, unfolding(crate::specs::Suits::pair))]
 pub fn suits(kind: PredicateKind, tag: u8, attribute: u8) -> bool
     ensures { result ≡ suits_of kind tag attribute }
 {
+    let pairs = |wanted, kind| tag == wanted && attribute == u8::from(kind);
     match kind {
-        PredicateKind::Variable => pairs(tag, attribute, 0, Kind::Boolean),
-        PredicateKind::NegatedVariable => pairs(tag, attribute, 0, Kind::Boolean),
-        PredicateKind::Set(_) => pairs_either(tag, attribute, 4, Kind::Integer, 5, Kind::String),
-        PredicateKind::Comparison(_) => pairs_either(
-            tag,
-            attribute,
-            1,
-            Kind::Integer,
-            2,
-            Kind::Float,
-        ),
-        PredicateKind::Equality(_) => either(
-            pairs_either(tag, attribute, 1, Kind::Integer, 2, Kind::Float),
-            pairs(tag, attribute, 3, Kind::String),
-        ),
-        PredicateKind::List(_) => pairs_either(
-            tag,
-            attribute,
-            4,
-            Kind::IntegerList,
-            5,
-            Kind::StringList,
-        ),
-        PredicateKind::Null(o) => null_suits(o, tag, attribute),
+        PredicateKind::Variable | PredicateKind::NegatedVariable => pairs(0, Kind::Boolean),
+        PredicateKind::Set(_) => pairs(4, Kind::Integer) || pairs(5, Kind::String),
+        PredicateKind::Comparison(_) => pairs(1, Kind::Integer) || pairs(2, Kind::Float),
+        PredicateKind::Equality(_) => {
+            pairs(1, Kind::Integer) || pairs(2, Kind::Float) || pairs(3, Kind::String)
+        }
+        PredicateKind::List(_) => pairs(4, Kind::IntegerList) || pairs(5, Kind::StringList),
+        PredicateKind::Null(NullOperator::IsNull | NullOperator::IsNotNull) => {
+            pairs(0, Kind::Boolean)
+                || pairs(0, Kind::Integer)
+                || pairs(0, Kind::Float)
+                || pairs(0, Kind::String)
+        }
+        PredicateKind::Null(NullOperator::IsEmpty | NullOperator::IsNotEmpty) => {
+            pairs(0, Kind::IntegerList) || pairs(0, Kind::StringList)
+        }
     }
 }

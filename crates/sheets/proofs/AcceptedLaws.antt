@@ -1,9 +1,10 @@
 -- What is read from an accepted sheet is within the limits: each of its predicates could be written (`predicate_writable`), and so the
 -- tree has a sheet of its own (`accepted_within`). With `EncodingLaws` these are the two directions between sheets and trees.
 -- Assumes nothing.
-use Rattle.std.specs.Prelude.{◌≡◌, Bool, List, [], eqb, take, drop, ℤ, pos}
+use Rattle.std.proofs.Common.{inl, inr, sym, ◌∙◌, true≢false, arith}
+use Rattle.std.proofs.lemmas.Bool.{cases_Bool}
+use Rattle.std.specs.Prelude.{◌≡◌, List, [], eqb, take, drop, ℤ, pos}
 use Rattle.std.proofs.Math.Path.{refl, ap, subst}
-use Rattle.std.proofs.Common.{sym, ◌∙◌, true≢false, arith}
 use Rattle.std.proofs.Math.Bool.{true, false}
 use Prim.Native.Nat.{ℕ, zero, suc, ◌+◌, ◌≤◌, ◌<◌}
 use borrow.Author.Tests.{eqb-true, leb-true, le-leb}
@@ -19,7 +20,8 @@ use Rattle.predicates.specs.Predicate.{Predicate}
 use Rattle.ast.specs.Trees.{Tree, Join, Not, Value, entries}
 use Rattle.sheets.specs.Entries.{natural_of, field_of, kind_of}
 use Rattle.sheets.specs.Table.{has_list, allowed, literal_fits}
-use Rattle.sheets.specs.Spells.{stands, shape_of, Spells}
+use Rattle.sheets.specs.declared.Shape.TheVariants.{Stands}
+use Rattle.sheets.specs.Spells.{shape_of, Spells}
 use Rattle.sheets.specs.Bodies.{tag_of, list_length_at, all_words}
 use Rattle.sheets.specs.WellFormed.{count_of, WellFormed, Accepted}
 use Rattle.sheets.specs.Form.{answer_of}
@@ -56,19 +58,17 @@ module _ (x : ℤ) (y : ℕ) where
       absurd (true≢false (sym (told_between 4 (suc (suc (suc (suc tag)))) 5 (omega arith) b) ∙ n))
 
 pub writable_scale : (p : Predicate) → Writable p → p.scale ≤ scale_limit
-writable_scale p w = go (has_list p.tag) refl
-  where
-    go : (b : Bool) → has_list p.tag ≡ b → p.scale ≤ scale_limit
-    go true h = let e = (w.listed h).1 in omega arith
-    go false h =
-        literal_scale p.kind p.attribute p.tag (natural_of p.number) p.scale
-        (allowed_bounded p.kind p.tag w.row).tags w.literal h
+writable_scale p w = elim (cases_Bool (has_list p.tag)) [
+  | inl h ↦ let e = (w.listed h).1 in omega arith
+  | inr h ↦ literal_scale p.kind p.attribute p.tag (natural_of p.number) p.scale
+      (allowed_bounded p.kind p.tag w.row).tags w.literal h
+]
 
 module _ (first : ℕ) (s : List ℤ) (n : ℕ) (a : Accepted first s n) where
   w : WellFormed first s n
   w = a.formed
 
-  module _ (i : ℕ) (l : i < n) (stand : shape_of (kind_of first s i) ≡ stands) where
+  module _ (i : ℕ) (l : i < n) (stand : shape_of (kind_of first s i) ≡ Stands) where
     fits : (allowed (kind_of first s i) (tag_of first s i) ≡ true)
         × (literal_fits (tag_of first s i) (field_of first s i 3) (field_of first s i 4) ≡ true)
     fits =
@@ -80,31 +80,25 @@ module _ (first : ℕ) (s : List ℤ) (n : ℕ) (a : Accepted first s n) where
 
     literal : literal_fits (tag_of first s i) (natural_of (literal_at first s i).number) (literal_at first s i).scale ≡ true
     unfolding scaled_at
-    literal = go (has_list (tag_of first s i)) refl
-      where
-        go : (b : Bool) → has_list (tag_of first s i) ≡ b
-            → literal_fits (tag_of first s i) (natural_of (literal_at first s i).number) (literal_at first s i).scale ≡ true
-        go true h = list_literal (tag_of first s i) _ _ h
-        go false h =
-            let bounded = allowed_bounded (kind_of first s i) (tag_of first s i) fits.0 in
-            rw h (normal_fits _ (field_of first s i 4) (tag_of first s i) bounded.tags h fits.1)
+    literal = elim (cases_Bool (has_list (tag_of first s i))) [
+      | inl h ↦ list_literal (tag_of first s i) _ _ h
+      | inr h ↦ let bounded = allowed_bounded (kind_of first s i) (tag_of first s i) fits.0 in
+          rw h (normal_fits _ (field_of first s i 4) (tag_of first s i) bounded.tags h fits.1)
+    ]
 
     normal : Normal (record { number = (literal_at first s i).number; scale = (literal_at first s i).scale })
     unfolding scaled_at
-    normal = go (has_list (tag_of first s i)) refl
-      where
-        go : (b : Bool) → has_list (tag_of first s i) ≡ b
-            → Normal (record { number = (literal_at first s i).number; scale = (literal_at first s i).scale })
-        go true h = rw h (whole (pos 0) 0 refl)
-        go false h = rw h (normal_idempotent _)
+    normal = elim (cases_Bool (has_list (tag_of first s i))) [
+      | inl h ↦ rw h (whole (pos 0) 0 refl)
+      | inr h ↦ rw h (normal_idempotent _)
+    ]
 
     ascending : ascends (predicate_of first s n i).elements ≡ true
     unfolding entry_of predicate_as ascends
-    ascending = go (has_list (tag_of first s i)) refl
-      where
-        go : (b : Bool) → has_list (tag_of first s i) ≡ b → ascends (predicate_of first s n i).elements ≡ true
-        go true h = ap ascends (reads_elements first s n i w l) ∙ (w.lists i l h).ascending
-        go false h = ap ascends (empty h)
+    ascending = elim (cases_Bool (has_list (tag_of first s i))) [
+      | inl h ↦ ap ascends (reads_elements first s n i w l) ∙ (w.lists i l h).ascending
+      | inr h ↦ ap ascends (empty h)
+    ]
 
     words : tag_of first s i ≡ 5 → all_words (predicate_of first s n i).elements ≡ true
     words e =

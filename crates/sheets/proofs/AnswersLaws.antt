@@ -4,21 +4,19 @@ use Rattle.std.specs.Prelude.{◌≡◌, Bool, cond, List, ℕ, ◌≤◌, T, le
 use Rattle.std.proofs.Math.Path.{refl, ap}
 use Rattle.std.proofs.Common.{sym, ◌∙◌, subst, true≢false, arith}
 use Rattle.std.proofs.Math.Bool.{true, false}
-use Rattle.std.proofs.lemmas.Bool.{false≢true}
+use Rattle.std.proofs.lemmas.Bool.{false≢true, false_from_ne_true}
 use borrow.Author.Tests.{ltb-true, ltb-false, lt-ltb, le-ltb, leb-true, leb-false, le-leb, lt-leb}
 use Rattle.std.proofs.Math.Dec.{ltb}
 use Rattle.std.specs.Int.Signed.{lt_z}
-use Rattle.error.specs.Answers.{Answer, Done, SheetMalformed, LimitPassed, number}
-use Rattle.error.specs.Answers.{NameTwice, NoAttribute, OtherKind, NotSuited, IdLive, IdNotLive, NoRoom, BookDamaged, BufferShort}
-use Rattle.error.specs.Answers.{EventUnsuited, NotSet}
+use Rattle.error.specs.Answers.{Answer, Done, Refused, number}
+use Rattle.error.specs.declared.Refusal.TheVariants.{SheetMalformed, LimitPassed}
 use Rattle.lists.specs.Below.{all_below}
 use Rattle.lists.specs.BelowLaws.{below_each, below_all, below_fault, below_broken}
 use Rattle.lists.specs.Sets.{list_limit}
 use Rattle.sheets.specs.Entries.{natural_of}
 use Rattle.sheets.specs.Table.{entry_limit}
 use Rattle.sheets.specs.Bodies.{list_length_at}
-use Rattle.sheets.specs.WellFormed.{count_at, count_of, WellFormed, Counted, Accepted}
-use Rattle.sheets.specs.WellFormed.{Answers, empty, none, many, malformed, long, good}
+use Rattle.sheets.specs.WellFormed.{count_at, count_of, WellFormed, Counted, Accepted, Answers, empty, none, many, malformed, long, good}
 use Rattle.sheets.specs.Form.{list_short, is_well_formed, counted_answer, form_answer, answer_of}
 use Rattle.sheets.proofs.FormLaws.{formed_told, told_formed}
 
@@ -71,13 +69,14 @@ module _ (first : ℕ) (s : List ℤ) where
   -- ---- from the tests to the facts
 
   module _ (n : ℕ) (c : Counted first s n) where
-    by_length : WellFormed first s n → (b : Bool) → all_below (list_short first s) n ≡ b → Answers first s (cond b Done LimitPassed)
+    by_length : WellFormed first s n → (b : Bool) → all_below (list_short first s) n ≡ b
+        → Answers first s (cond b Done (Refused LimitPassed))
     by_length w true e =
         good n (record { counted = c; formed = w; short = λ i l. leb-true _ _ (below_each (list_short first s) n e i l) })
     by_length w false e = let f = below_fault (list_short first s) n e in long n c w f.0 f.1 (leb-false _ _ f.2)
 
     by_form : (b : Bool) → is_well_formed first s n ≡ b
-        → Answers first s (cond b (cond (all_below (list_short first s) n) Done LimitPassed) SheetMalformed)
+        → Answers first s (cond b (cond (all_below (list_short first s) n) Done (Refused LimitPassed)) (Refused SheetMalformed))
     by_form true e = by_length (formed_told first s n e) (all_below (list_short first s) n) refl
     by_form false e = malformed n c (λ w. true≢false (sym (told_formed first s n w) ∙ e))
 
@@ -91,7 +90,10 @@ module _ (first : ℕ) (s : List ℤ) where
       go (ltb (length s) first) (lt_z (count_at first s) (pos 1)) (lt_z (pos entry_limit) (count_at first s)) refl refl refl
     where
       go : (a b c : Bool) → ltb (length s) first ≡ a → lt_z (count_at first s) (pos 1) ≡ b → lt_z (pos entry_limit) (count_at first s) ≡ c
-          → Answers first s (cond a SheetMalformed (cond b SheetMalformed (cond c LimitPassed (counted_answer first s (count_of first s)))))
+          → Answers first s
+          (cond a (Refused SheetMalformed)
+          (cond b (Refused SheetMalformed)
+          (cond c (Refused LimitPassed) (counted_answer first s (count_of first s)))))
       go true b c d e f = empty (ltb-true _ _ d)
       go false true c d e f = none (ltb-false _ _ d) (below _ _ e)
       go false false true d e f = many (ltb-false _ _ d) (below _ _ f)
@@ -108,61 +110,36 @@ module _ (first : ℕ) (s : List ℤ) where
       rw (le-ltb (length s) first c.reached, lo, hi) (ap (counted_answer first s) (counted_count n c))
 
   malformed_test : (n : ℕ) → ¬ WellFormed first s n → is_well_formed first s n ≡ false
-  malformed_test n w = go (is_well_formed first s n) refl
-    where
-      go : (b : Bool) → is_well_formed first s n ≡ b → b ≡ false
-      go true e = absurd (w (formed_told first s n e))
-      go false e = refl
+  malformed_test n w = false_from_ne_true _ (λ e. w (formed_told first s n e))
 
   pub answered : (a : Answer) → Answers first s a → form_answer first s ≡ a
   unfolding form_answer counted_answer
-  answered SheetMalformed (empty h) = rw (lt-ltb (length s) first h)
-  answered SheetMalformed (none h l) = rw (le-ltb (length s) first h, below_test _ _ l)
-  answered LimitPassed (many h l) =
-      let e = below_test (pos entry_limit) (count_at first s) l in
-      rw (le-ltb (length s) first h, many_some (count_at first s) e, e)
-  answered SheetMalformed (malformed n c w) = counted_answer_lem n c ∙ rw (malformed_test n w)
-  answered LimitPassed (long n c w i l k) =
-      let broken = below_broken (list_short first s) i n l (lt-leb (list_length_at first s i) list_limit k) in
-      counted_answer_lem n c ∙ rw (told_formed first s n w, broken)
-  answered Done (good n a) =
-      let short = below_all (list_short first s) n (λ i l. le-leb (list_length_at first s i) list_limit (a.short i l)) in
-      counted_answer_lem n a.counted ∙ rw (told_formed first s n a.formed, short)
-  answered NameTwice a = elim a [ ]
-  answered NoAttribute a = elim a [ ]
-  answered OtherKind a = elim a [ ]
-  answered NotSuited a = elim a [ ]
-  answered IdLive a = elim a [ ]
-  answered IdNotLive a = elim a [ ]
-  answered NoRoom a = elim a [ ]
-  answered BookDamaged a = elim a [ ]
-  answered BufferShort a = elim a [ ]
-  answered EventUnsuited a = elim a [ ]
-  answered NotSet a = elim a [ ]
+  answered a h = elim h as (λ a h. form_answer first s ≡ a) [
+    | empty h ↦ rw (lt-ltb (length s) first h)
+    | none h l ↦ rw (le-ltb (length s) first h, below_test _ _ l)
+    | many h l ↦
+        let e = below_test (pos entry_limit) (count_at first s) l in
+        rw (le-ltb (length s) first h, many_some (count_at first s) e, e)
+    | malformed n c w ↦ counted_answer_lem n c ∙ rw (malformed_test n w)
+    | long n c w i l k ↦
+        let broken = below_broken (list_short first s) i n l (lt-leb (list_length_at first s i) list_limit k) in
+        counted_answer_lem n c ∙ rw (told_formed first s n w, broken)
+    | good n a ↦
+        let short = below_all (list_short first s) n (λ i l. le-leb (list_length_at first s i) list_limit (a.short i l)) in
+        counted_answer_lem n a.counted ∙ rw (told_formed first s n a.formed, short)
+  ]
 
   -- ---- the answer 0
 
   pub accepted : answer_of first s ≡ 0 → Accepted first s (count_of first s)
-  accepted h = go (form_answer first s) answers h
-    where
-      go : (a : Answer) → Answers first s a → number a ≡ 0 → Accepted first s (count_of first s)
-      go SheetMalformed (empty h) e = absurd (omega arith)
-      go SheetMalformed (none h l) e = absurd (omega arith)
-      go LimitPassed (many h l) e = absurd (omega arith)
-      go SheetMalformed (malformed n c w) e = absurd (omega arith)
-      go LimitPassed (long n c w i l k) e = absurd (omega arith)
-      go Done (good n a) e = subst (λ (m : ℕ). Accepted first s m) (sym (counted_count n a.counted)) a
-      go NameTwice a e = elim a [ ]
-      go NoAttribute a e = elim a [ ]
-      go OtherKind a e = elim a [ ]
-      go NotSuited a e = elim a [ ]
-      go IdLive a e = elim a [ ]
-      go IdNotLive a e = elim a [ ]
-      go NoRoom a e = elim a [ ]
-      go BookDamaged a e = elim a [ ]
-      go BufferShort a e = elim a [ ]
-      go EventUnsuited a e = elim a [ ]
-      go NotSet a e = elim a [ ]
+  accepted h = (elim answers as (λ a h. number a ≡ 0 → Accepted first s (count_of first s)) [
+    | empty h ↦ λ e. absurd (omega arith)
+    | none h l ↦ λ e. absurd (omega arith)
+    | many h l ↦ λ e. absurd (omega arith)
+    | malformed n c w ↦ λ e. absurd (omega arith)
+    | long n c w i l k ↦ λ e. absurd (omega arith)
+    | good n a ↦ λ e. subst (λ (m : ℕ). Accepted first s m) (sym (counted_count n a.counted)) a
+  ]) h
 
   pub accepting : (n : ℕ) → Accepted first s n → answer_of first s ≡ 0
   accepting n a = ap number (answered Done (good n a))

@@ -1,12 +1,13 @@
 -- The tests of `Form` say what the facts of `WellFormed` say: `formed_told` and `told_formed` are the two directions. Assumes nothing.
-use Rattle.std.specs.Prelude.{◌≡◌, Bool, List, ℕ, ◌+◌, leb, length, ℤ}
+use Rattle.std.proofs.Common.{inl, inr, ◌∙◌}
+use Rattle.std.proofs.lemmas.Bool.{cases_Bool}
+use Rattle.std.specs.Prelude.{◌≡◌, Bool, List, ℕ, ◌+◌, ◌<◌, leb, length, ℤ}
 use Rattle.std.proofs.Math.Path.{refl}
-use Rattle.std.proofs.Common.{◌∙◌}
 use Rattle.std.proofs.Math.Bool.{true, false, cond}
-use borrow.Author.Tests.{leb-true, le-leb, eqb-true, eq-eqb}
+use borrow.Author.Tests.{leb-true, le-leb, lt-leb, eqb-true, eq-eqb}
 use Rattle.std.proofs.Math.Dec.{eqb}
 use Rattle.lists.specs.And.{◌and◌}
-use Rattle.lists.specs.AndLaws.{and_left, and_right, and_both}
+use Rattle.lists.specs.AndLaws.{and_left, and_right, and_first, and_both}
 use Rattle.lists.specs.Below.{all_below}
 use Rattle.lists.specs.BelowLaws.{below_each, below_all}
 use Rattle.lists.specs.Sets.{ascends}
@@ -15,6 +16,7 @@ use Rattle.sheets.specs.Table.{has_list}
 use Rattle.sheets.specs.Bodies.{tag_of, list_length_at, start_at, bodies_at, elements_at, all_words, elements_fit}
 use Rattle.sheets.specs.WellFormed.{entry_fits_at, Listed, WellFormed}
 use Rattle.sheets.specs.Form.{one_tree, list_fits_at, lists_fit, is_well_formed}
+use Rattle.sheets.proofs.SheetTests.{sheet_tests}
 use Rattle.sheets.proofs.OwedLaws.{owed_tree, tree_owed}
 use Rattle.sheets.proofs.ListFitsLaws.{fits_unlisted, fits_listed, fits_told}
 
@@ -52,16 +54,12 @@ module _ (first : ℕ) (s : List ℤ) (n : ℕ) where
       }
 
   fitting : (i : ℕ) → (has_list (tag_of first s i) ≡ true → Listed first s n i) → list_fits_at first s n i ≡ true
-  fitting i g = go (has_list (tag_of first s i)) refl
-    where
-      go : (b : Bool) → has_list (tag_of first s i) ≡ b → list_fits_at first s n i ≡ true
-      go true h =
-          let r = g h in
-          fits_listed s (bodies_at first n) (start_at first s i) (tag_of first s i) (field_of first s i 3) (list_length_at first s i) h
-          r.start r.inside
-          ∙ elements_fit_lem (tag_of first s i) (elements_at first s n i) r.ascending r.words
-      go false h =
-          fits_unlisted s (bodies_at first n) (start_at first s i) (tag_of first s i) (field_of first s i 3) (list_length_at first s i) h
+  fitting i g = elim (cases_Bool (has_list (tag_of first s i))) [
+    | inl h ↦ let r = g h in
+        fits_listed _ _ _ _ _ _ h r.start r.inside
+        ∙ elements_fit_lem (tag_of first s i) (elements_at first s n i) r.ascending r.words
+    | inr h ↦ fits_unlisted _ _ _ _ _ _ h
+  ]
 
   abbrev roomy : Bool
   roomy = leb (bodies_at first n) (length s)
@@ -97,3 +95,11 @@ module _ (first : ℕ) (s : List ℤ) (n : ℕ) where
       (and_both (all_below (list_fits_at first s n) n) ended
       (below_all (list_fits_at first s n) n (λ i l. fitting i (w.lists i l)))
       (eq-eqb _ _ w.end))
+
+-- ---- what the code tests of it
+
+pub outside : (first : ℕ) (s : List ℤ) (n : ℕ) → length s < bodies_at first n → is_well_formed first s n ≡ false
+unfolding is_well_formed
+outside first s n l = and_first _ _ (and_first _ _ (and_first _ _ (lt-leb (bodies_at first n) (length s) l)))
+
+pub ruleset form_tests = (sheet_tests, outside)

@@ -1,3 +1,4 @@
+pub mod AllLaws
 pub mod SignLaws
 pub mod AcceptedLaws
 pub mod AnswersLaws
@@ -6,5 +7,6 @@ pub mod FormLaws
 pub mod ListFitsLaws
 pub mod OwedLaws
 pub mod SheetTrials
+pub mod SheetTests
 pub mod SuitingLaws
 pub mod WrittenLaws

@@ -1,14 +1,16 @@
 -- Laws of the test of one list, `list_fits`: its value by the tag, the start and the end, and what it tells where it holds.
 -- Assumes nothing.
-use Rattle.std.specs.Prelude.{◌≡◌, refl, Bool, true, false, List, ℕ, ◌+◌, ◌≤◌, ◌<◌, eqb, leb, length, take, drop, ℤ}
-use Rattle.std.proofs.Common.{sym, ◌∙◌, arith, eqb-true, leb-true, eq-eqb, ne_eqb, le-leb}
-use Rattle.std.proofs.lemmas.Bool.{lt-leb}
+use Rattle.std.proofs.Common.{inl, inr, sym, ◌∙◌, arith, eqb-true, leb-true, eq-eqb, le-leb}
+use Rattle.std.proofs.lemmas.Bool.{cases_Bool}
+use Rattle.std.specs.Prelude.{◌≡◌, Bool, true, false, List, ℕ, ◌+◌, ◌≤◌, eqb, leb, length, take, drop, ℤ}
 use Rattle.lists.specs.And.{◌and◌}
-use Rattle.lists.specs.AndLaws.{and_left, and_right, and_first, and_second, and_skip, and_both}
+use Rattle.lists.specs.BelowLaws.{below_none, below_more}
+use Rattle.lists.specs.AndLaws.{and_left, and_right, and_skip, and_both}
 use Rattle.sheets.specs.Table.{has_list}
 use Rattle.sheets.specs.Bodies.{tag_of, list_length_at, start_at, bodies_at, elements_fit}
 use Rattle.sheets.specs.Form.{list_fits, list_fits_at}
-use Rattle.sheets.specs.BodiesLaws.{length_unlisted}
+use Rattle.sheets.specs.BodiesLaws.{length_unlisted, start_first, start_next}
+use Rattle.sheets.proofs.SheetTests.{sheet_tests}
 
 module _ (s : List ℤ) (base start tag x size : ℕ) where
   pub fits_unlisted : has_list tag ≡ false → list_fits s base start tag x size ≡ true
@@ -29,12 +31,6 @@ module _ (s : List ℤ) (base start tag x size : ℕ) where
     unfolding list_fits
     fits_is = rw h
 
-    pub fits_elsewhere : ¬ (x ≡ start) → list_fits s base start tag x size ≡ false
-    fits_elsewhere n = fits_is ∙ and_first (starts and ends) holds (and_first starts ends (ne_eqb x start n))
-
-    pub fits_past : length s < base + start + size → list_fits s base start tag x size ≡ false
-    fits_past l = fits_is ∙ and_first (starts and ends) holds (and_second starts ends (lt-leb _ _ l))
-
     pub fits_listed : x ≡ start → base + start + size ≤ length s → list_fits s base start tag x size ≡ holds
     fits_listed e l = fits_is ∙ and_skip (starts and ends) holds (and_both starts ends (eq-eqb x start e) (le-leb _ _ l))
 
@@ -47,8 +43,9 @@ module _ (s : List ℤ) (base start tag x size : ℕ) where
 -- a list that fits leaves the next one within the sheet
 pub fits_inside : (first : ℕ) (s : List ℤ) (n i : ℕ) → list_fits_at first s n i ≡ true → bodies_at first n + start_at first s i ≤ length s
     → bodies_at first n + start_at first s i + list_length_at first s i ≤ length s
-fits_inside first s n i e l = go (has_list (tag_of first s i)) refl
-  where
-    go : (b : Bool) → has_list (tag_of first s i) ≡ b → bodies_at first n + start_at first s i + list_length_at first s i ≤ length s
-    go true h = (fits_told s (bodies_at first n) (start_at first s i) (tag_of first s i) _ (list_length_at first s i) h e).1
-    go false h = let none = length_unlisted first s i h in omega arith
+fits_inside first s n i e l = elim (cases_Bool (has_list (tag_of first s i))) [
+  | inl h ↦ (fits_told s (bodies_at first n) (start_at first s i) (tag_of first s i) _ (list_length_at first s i) h e).1
+  | inr h ↦ let none = length_unlisted first s i h in omega arith
+]
+
+pub ruleset list_steps = (sheet_tests, start_first, start_next, fits_inside, below_none, below_more)

@@ -8,17 +8,20 @@ use native.Mathlib.Omega.{arith}
 use borrow.Author.Tests.{ltb-true, lt-ltb, eqb-true, eq-eqb}
 use Rattle.lists.specs.AndLaws.{and_left, and_right, and_both}
 use Rattle.lists.specs.Below.{all_below}
-use Rattle.lists.specs.BelowLaws.{below_each, below_all}
+use Rattle.lists.specs.BelowLaws.{below_none, below_more, below_each, below_all}
 use Rattle.ast.specs.Trees.{Tree, Join, Not, Value}
 use Rattle.sheets.specs.Entries.{kind_of}
-use Rattle.sheets.specs.Spells.{Shape, joins, negates, stands, shape_of, Spells}
+use Rattle.sheets.specs.declared.Shape.{Shape}
+use Rattle.sheets.specs.declared.Shape.TheVariants.{Joins, Negates, Stands}
+use Rattle.sheets.specs.Spells.{shape_of, Spells}
 use Rattle.sheets.specs.Form.{subtrees, owed_at, owes, one_tree}
+use Rattle.sheets.proofs.SheetTests.{sheet_tests}
 use Rattle.sheets.specs.RangeLaws.{Range, range_one, range_more, range_join}
 
 pub subtrees_most : (h : Shape) → subtrees h ≤ 2
-subtrees_most (joins o) = omega arith
-subtrees_most negates = omega arith
-subtrees_most stands = omega arith
+subtrees_most (Joins o) = omega arith
+subtrees_most Negates = omega arith
+subtrees_most Stands = omega arith
 
 module _ (first : ℕ) (s : List ℤ) where
   pub owed_first : owed_at first s 0 ≡ 1
@@ -39,16 +42,16 @@ module _ (first : ℕ) (s : List ℤ) where
   -- an entry before as many trees as it asks for, and k more
   plant : (h : Shape) (i j k m : ℕ) → shape_of (kind_of first s i) ≡ h → m ≡ k + subtrees h → Forest m (i + 1) j → Forest (suc k) i j
   unfolding Spells
-  plant (joins o) i j k m e f w =
+  plant (Joins o) i j k m e f w =
       let two : m ≡ suc (suc k) = omega arith in
       let v : Forest (suc (suc k)) (i + 1) j = subst (λ (n : ℕ). Forest n (i + 1) j) two w in
       let b = v.3 in
       (Join o v.0 b.0, b.1, (v.1, e, v.2, b.2), b.3)
-  plant negates i j k m e f w =
+  plant Negates i j k m e f w =
       let one : m ≡ suc k = omega arith in
       let v : Forest (suc k) (i + 1) j = subst (λ (n : ℕ). Forest n (i + 1) j) one w in
       (Not v.0, v.1, (e, v.2), v.3)
-  plant stands i j k m e f w =
+  plant Stands i j k m e f w =
       let none : m ≡ k = omega arith in
       (Value i, i + 1, (refl, refl, e), subst (λ (n : ℕ). Forest n (i + 1) j) none w)
 
@@ -113,3 +116,10 @@ module _ (first : ℕ) (s : List ℤ) where
   tree_owed n t =
       let r = pay t.0 0 n 0 t.1 owed_first in
       and_both _ _ (below_all (owes first s) n (λ m l. lt-ltb 0 (owed_at first s m) (r.owed m (omega arith) l))) (eq-eqb _ 0 r.left)
+
+-- ---- what a loop over the entries needs
+
+pub subtrees_few : (first : ℕ) (s : List ℤ) (i : ℕ) → subtrees (shape_of (kind_of first s i)) ≤ 2
+subtrees_few first s i = subtrees_most _
+
+pub ruleset owed_steps = (sheet_tests, owed_first, owed_next, subtrees_few, below_none, below_more)

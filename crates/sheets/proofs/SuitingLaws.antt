@@ -10,31 +10,22 @@ use Prim.Native.Nat.{ℕ, zero, suc, ◌+◌, ◌≤◌, ◌<◌}
 use Rattle.std.proofs.Math.Decide.{ℕ_discrete}
 use borrow.Author.Tests.{ltb-true, lt-ltb}
 use Rattle.std.proofs.Math.Dec.{ltb}
-use Rattle.error.specs.Answers.{Answer, Done, NoAttribute, NotSuited, number, then}
-use Rattle.error.proofs.AnswersLaws.{one_number_each, then_refused}
-use Rattle.attributes.specs.Table.{is_between, kind_at, count_of as attributesIn}
+use Rattle.error.specs.Answers.{Answer, Done, Refused, then}
+use Rattle.error.specs.declared.Refusal.TheVariants.{NoAttribute, NotSuited}
+use Rattle.error.proofs.AnswersLaws.{done?, then_refused, then_both}
+use Rattle.attributes.specs.Table.{kind_at, count_of as attributesIn}
 use Rattle.predicates.specs.Kinds.{kind_of as kindNumbered}
 use Rattle.predicates.specs.Suits.{suits_of}
 use Rattle.ast.specs.Trees.{Tree, Join, Not, Value}
 use Rattle.sheets.specs.Entries.{field_of, kind_of}
-use Rattle.sheets.specs.Spells.{stands, shape_of, Spells}
+use Rattle.sheets.specs.declared.Shape.TheVariants.{Stands}
+use Rattle.sheets.specs.Spells.{shape_of, Spells}
 use Rattle.sheets.specs.Bodies.{tag_of}
 use Rattle.sheets.specs.Reading.{entry_of, predicate_as, predicate_of}
 use Rattle.sheets.specs.RangeLaws.{Range, range_one, range_more, range_join}
-use Rattle.sheets.specs.TableLaws.{between_told}
-use Rattle.sheets.specs.SpellsLaws.{shape_stands, spells_size}
+use Rattle.sheets.specs.SpellsLaws.{spells_size}
 use Rattle.sheets.specs.Encoding.{Leaves}
-use Rattle.sheets.specs.Suiting.{Suited, suit_answer, standing, entry_answer, entries_answer}
-
-done? : (a : Answer) → Dec (a ≡ Done)
-done? a = elim (ℕ_discrete (number a) 0) [ yes e ↦ yes (one_number_each a Done e) | no ne ↦ no (λ e. ne (ap number e)) ]
-
-then_done : (a b : Answer) → then a b ≡ Done → (a ≡ Done) × (b ≡ Done)
-then_done a b h = go (done? a)
-  where
-    go : Dec (a ≡ Done) → (a ≡ Done) × (b ≡ Done)
-    go (yes e) = (e, rw e at h)
-    go (no ne) = absurd (ne (sym (then_refused a b ne) ∙ h))
+use Rattle.sheets.specs.Suiting.{Suited, suit_answer, entry_answer, entries_answer}
 
 module _ (table : List ℕ) (first : ℕ) (s : List ℤ) where
   pub entries_none : entries_answer table first s 0 ≡ Done
@@ -65,7 +56,7 @@ module _ (table : List ℕ) (first : ℕ) (s : List ℤ) where
   pub entries_each : (n : ℕ) → entries_answer table first s n ≡ Done → (i : ℕ) → i < n → entry_answer table first s i ≡ Done
   unfolding entries_answer
   entries_each zero h i l = absurd (omega arith)
-  entries_each (suc n) h i l = go (ℕ_discrete i n) (then_done _ _ h) (λ e. entries_each n e i)
+  entries_each (suc n) h i l = go (ℕ_discrete i n) (then_both _ _ h) (λ e. entries_each n e i)
     where
       go : Dec (i ≡ n) → (entries_answer table first s n ≡ Done) × (entry_answer table first s n ≡ Done)
           → (entries_answer table first s n ≡ Done → i < n → entry_answer table first s i ≡ Done) → entry_answer table first s i ≡ Done
@@ -111,31 +102,13 @@ module _ (table : List ℕ) (first : ℕ) (s : List ℤ) where
             before = f.before;
           }
 
-  -- ---- operators and predicates, by the test that tells them apart
-
-  pub entry_operator : (i : ℕ) → is_between 1 (kind_of first s i) 3 ≡ true → entry_answer table first s i ≡ Done
-  unfolding entry_answer shape_of
-  entry_operator i h = let b = between_told 1 (kind_of first s i) 3 h in go (kind_of first s i) b.0 b.1 _
-    where
-      go : (k : ℕ) → 1 ≤ k → k ≤ 3 → (a : Answer) → standing (shape_of k) a ≡ Done
-      go zero l u a = absurd (omega arith)
-      go (suc zero) l u a = refl
-      go (suc (suc zero)) l u a = refl
-      go (suc (suc (suc zero))) l u a = refl
-      go (suc (suc (suc (suc k)))) l u a = absurd (omega arith)
-
-  pub entry_predicate : (i : ℕ) → is_between 1 (kind_of first s i) 3 ≡ false
-      → entry_answer table first s i ≡ suit_answer table (field_of first s i 1) (kind_of first s i) (tag_of first s i)
-  unfolding entry_answer
-  entry_predicate i h = rw (shape_stands (kind_of first s i) h)
-
   -- ---- the tree
 
   module _ (n : ℕ) where
     abbrev Suits : ℕ → Type 0
     Suits i = Suited table (predicate_of first s n i)
 
-    entry_suits : (i : ℕ) → shape_of (kind_of first s i) ≡ stands → entry_answer table first s i ≡ Done → Suits i
+    entry_suits : (i : ℕ) → shape_of (kind_of first s i) ≡ Stands → entry_answer table first s i ≡ Done → Suits i
     unfolding entry_answer suit_answer entry_of predicate_as
     entry_suits i h e =
         go (ltb (field_of first s i 1) (attributesIn table))
@@ -143,7 +116,7 @@ module _ (table : List ℕ) (first : ℕ) (s : List ℤ) where
       where
         go : (a b : Bool) → ltb (field_of first s i 1) (attributesIn table) ≡ a
             → suits_of (kindNumbered (kind_of first s i)) (tag_of first s i) (kind_at table (field_of first s i 1)) ≡ b
-            → cond a (cond b Done NotSuited) NoAttribute ≡ Done → Suits i
+            → cond a (cond b Done (Refused NotSuited)) (Refused NoAttribute) ≡ Done → Suits i
         go true true e f h = record { known = ltb-true _ _ e; suits = f }
         go true false e f h = absurd (let z : ◌≡◌ {A = ℕ} 0 1 = cc in omega arith)
         go false b e f h = absurd (let z : ◌≡◌ {A = ℕ} 0 1 = cc in omega arith)
@@ -158,7 +131,7 @@ module _ (table : List ℕ) (first : ℕ) (s : List ℤ) where
         let e = spells_size first s b h.0 j h.3 in
         (leaves_suit a (i + 1) h.0 h.2 (omega arith) d, leaves_suit b h.0 j h.3 l d)
 
-    suits_entry : (i : ℕ) → shape_of (kind_of first s i) ≡ stands → Suits i → entry_answer table first s i ≡ Done
+    suits_entry : (i : ℕ) → shape_of (kind_of first s i) ≡ Stands → Suits i → entry_answer table first s i ≡ Done
     unfolding entry_answer suit_answer entry_of predicate_as
     suits_entry i h q = rw (h, lt-ltb (field_of first s i 1) (attributesIn table) q.known, q.suits)
 
@@ -174,3 +147,6 @@ module _ (table : List ℕ) (first : ℕ) (s : List ℤ) where
 
     pub suit_leaves : (t : Tree ℕ) → Spells first s t 0 n → Leaves Suits t → entries_answer table first s n ≡ Done
     suit_leaves t h q = entries_all n (λ k l. suit_each t 0 n h q k (omega arith) l)
+
+-- what a loop over the entries needs
+pub ruleset suiting_steps = (entries_none, entries_more)

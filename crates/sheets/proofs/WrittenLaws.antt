@@ -1,8 +1,9 @@
 -- One entry as `sheet_of` writes it: it may stand in a sheet, its list is the one that is due, and it reads back to its predicate.
 -- Used by `EncodingLaws`. Assumes nothing.
+use Rattle.std.proofs.Common.{inl, inr, sym, ◌∙◌, true≢false, arith, ne_eqb, length-append, length-drop, get_or-drop, drop-drop, take_at}
+use Rattle.std.proofs.lemmas.Bool.{cases_Bool}
 use Rattle.std.specs.Prelude.{◌≡◌, Bool, cond, List, ◌++◌, ℕ, ◌+◌, ◌*◌, ◌≤◌, length, get_or, take, drop, ℤ, pos}
 use Rattle.std.proofs.Math.Path.{refl, ap}
-use Rattle.std.proofs.Common.{sym, ◌∙◌, true≢false, arith, ne_eqb, length-append, length-drop, get_or-drop, drop-drop, take_at}
 use Rattle.std.proofs.Math.Bool.{true, false}
 use Rattle.evaluation.specs.declared.Operator.{Operator}
 use Rattle.evaluation.specs.declared.Operator.TheVariants.{And, Or}
@@ -11,7 +12,8 @@ use Rattle.lists.specs.Sets.{list_limit}
 use Rattle.predicates.specs.Predicate.{Predicate}
 use Rattle.sheets.specs.Entries.{natural_of, field_of, kind_of}
 use Rattle.sheets.specs.Table.{has_list, literal_fits, entry_fits}
-use Rattle.sheets.specs.Spells.{joins, stands, shape_of}
+use Rattle.sheets.specs.declared.Shape.TheVariants.{Joins, Stands}
+use Rattle.sheets.specs.Spells.{shape_of}
 use Rattle.sheets.specs.Bodies.{tag_of, list_length_at, start_at, bodies_at, elements_at}
 use Rattle.sheets.specs.WellFormed.{entry_fits_at, Listed}
 use Rattle.sheets.specs.Reading.{scaled_at, literal_at, list_at, entry_of, predicate_as, predicate_of}
@@ -33,10 +35,10 @@ list_literal tag x y h =
     let b = between_told 4 tag 5 h in
     rw (ne_eqb tag 0 (λ e. omega arith), ne_eqb tag 1 (λ e. omega arith), ne_eqb tag 2 (λ e. omega arith), ne_eqb tag 3 (λ e. omega arith))
 
-shape_predicate : (k : ℕ) → 10 ≤ k → shape_of k ≡ stands
+shape_predicate : (k : ℕ) → 10 ≤ k → shape_of k ≡ Stands
 shape_predicate k l = shape_stands k (between_above 1 k 3 (omega arith))
 
-pub shape_operator : (o : Operator) → shape_of (operator_number o) ≡ joins o
+pub shape_operator : (o : Operator) → shape_of (operator_number o) ≡ Joins o
 unfolding shape_of
 shape_operator And = refl
 shape_operator Or = refl
@@ -107,11 +109,10 @@ module _ (first : ℕ) (s : List ℤ) (n i start : ℕ) (p : Predicate) (after :
   tag_listed b h = ap has_list e.tags ∙ h
 
   pub size : list_length_at first s i ≡ length p.elements
-  size = go (has_list p.tag) refl
-    where
-      go : (b : Bool) → has_list p.tag ≡ b → list_length_at first s i ≡ length p.elements
-      go true h = length_listed first s i (tag_listed true h) ∙ e.second ∙ rw h
-      go false h = length_unlisted first s i (tag_listed false h) ∙ sym (ap length (w.unlisted h))
+  size = elim (cases_Bool (has_list p.tag)) [
+    | inl h ↦ length_listed first s i (tag_listed true h) ∙ e.second ∙ rw h
+    | inr h ↦ length_unlisted first s i (tag_listed false h) ∙ sym (ap length (w.unlisted h))
+  ]
 
   inside : bodies_at first n + start + length p.elements ≤ length s
   inside =
@@ -152,23 +153,21 @@ module _ (first : ℕ) (s : List ℤ) (n i start : ℕ) (p : Predicate) (after :
         short = omega arith;
       }
 
-  pub predicate_spelled : shape_of (kind_of first s i) ≡ stands
+  pub predicate_spelled : shape_of (kind_of first s i) ≡ Stands
   predicate_spelled = ap shape_of e.kinds ∙ shape_predicate p.kind (allowed_bounded p.kind p.tag w.row).predicate
 
   reads_literal : literal_at first s i ≡ record { number = p.number; scale = p.scale }
   unfolding scaled_at
-  reads_literal = go (has_list p.tag) refl
-    where
-      go : (b : Bool) → has_list p.tag ≡ b → literal_at first s i ≡ record { number = p.number; scale = p.scale }
-      go true h = rw (tag_listed true h, (w.listed h).0, (w.listed h).1)
-      go false h = rw (tag_listed false h, e.number, e.second, h) w.normal
+  reads_literal = elim (cases_Bool (has_list p.tag)) [
+    | inl h ↦ rw (tag_listed true h, (w.listed h).0, (w.listed h).1)
+    | inr h ↦ rw (tag_listed false h, e.number, e.second, h) w.normal
+  ]
 
   reads_list : take (list_length_at first s i) (drop (list_at first s n i) s) ≡ p.elements
-  reads_list = go (has_list p.tag) refl
-    where
-      go : (b : Bool) → has_list p.tag ≡ b → take (list_length_at first s i) (drop (list_at first s n i) s) ≡ p.elements
-      go true h = rw (size, tag_listed true h, starts h, body) (take_at p.elements after (length p.elements) refl)
-      go false h = rw (length_unlisted first s i (tag_listed false h), w.unlisted h)
+  reads_list = elim (cases_Bool (has_list p.tag)) [
+    | inl h ↦ rw (size, tag_listed true h, starts h, body) (take_at p.elements after (length p.elements) refl)
+    | inr h ↦ rw (length_unlisted first s i (tag_listed false h), w.unlisted h)
+  ]
 
   pub predicate_read : predicate_of first s n i ≡ p
   unfolding entry_of predicate_as

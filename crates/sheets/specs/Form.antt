@@ -2,13 +2,16 @@
 -- Assumes nothing: these are definitions.
 use Rattle.std.specs.Prelude.{Bool, true, cond, List, ℕ, zero, suc, ◌+◌, ◌-◌, eqb, ltb, leb, length, take, drop, ℤ, pos}
 use Rattle.std.specs.Int.Signed.{lt_z}
-use Rattle.error.specs.Answers.{Answer, Done, SheetMalformed, LimitPassed, number}
+use Rattle.error.specs.Answers.{Answer, Done, Refused, number}
+use Rattle.error.specs.declared.Refusal.TheVariants.{SheetMalformed, LimitPassed}
 use Rattle.lists.specs.And.{◌and◌}
 use Rattle.lists.specs.Below.{all_below}
 use Rattle.lists.specs.Sets.{list_limit}
 use Rattle.sheets.specs.Entries.{field_of, kind_of}
 use Rattle.sheets.specs.Table.{entry_limit, has_list}
-use Rattle.sheets.specs.Spells.{Shape, joins, negates, stands, shape_of}
+use Rattle.sheets.specs.declared.Shape.{Shape}
+use Rattle.sheets.specs.declared.Shape.TheVariants.{Joins, Negates, Stands}
+use Rattle.sheets.specs.Spells.{shape_of}
 use Rattle.sheets.specs.Bodies.{tag_of, list_length_at, start_at, bodies_at, elements_fit}
 use Rattle.sheets.specs.WellFormed.{count_at, count_of, entry_fits_at}
 
@@ -16,9 +19,9 @@ use Rattle.sheets.specs.WellFormed.{count_at, count_of, entry_fits_at}
 
 -- how many subtrees follow an entry
 abbrev pub subtrees : Shape → ℕ
-subtrees (joins o) = 2
-subtrees negates = 1
-subtrees stands = 0
+subtrees (Joins o) = 2
+subtrees Negates = 1
+subtrees Stands = 0
 
 -- owed before entry i
 unfoldable pub owed_at : ℕ → List ℤ → ℕ → ℕ
@@ -60,13 +63,13 @@ is_well_formed first s n =
 -- of a sheet with so many entries, within the limit
 unfoldable pub counted_answer : ℕ → List ℤ → ℕ → Answer
 counted_answer first s n =
-    cond (is_well_formed first s n) (cond (all_below (list_short first s) n) Done LimitPassed) SheetMalformed
+    cond (is_well_formed first s n) (cond (all_below (list_short first s) n) Done (Refused LimitPassed)) (Refused SheetMalformed)
 
 unfoldable pub form_answer : ℕ → List ℤ → Answer
 form_answer first s =
-    cond (ltb (length s) first) SheetMalformed
-    (cond (lt_z (count_at first s) (pos 1)) SheetMalformed
-    (cond (lt_z (pos entry_limit) (count_at first s)) LimitPassed
+    cond (ltb (length s) first) (Refused SheetMalformed)
+    (cond (lt_z (count_at first s) (pos 1)) (Refused SheetMalformed)
+    (cond (lt_z (pos entry_limit) (count_at first s)) (Refused LimitPassed)
     (counted_answer first s (count_of first s))))
 
 abbrev pub answer_of : ℕ → List ℤ → ℕ

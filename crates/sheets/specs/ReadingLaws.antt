@@ -1,10 +1,9 @@
 -- Reading an entry of a well-formed sheet: its numbers have their bounds, so nothing is lost or passed (`readable`), and the list that x
 -- and y point at is the entry's own, the one that starts where the last ended (`reads_elements`). Assumes nothing.
-use Rattle.std.specs.Prelude.{◌≡◌, Bool, List, ℕ, ◌+◌, ◌*◌, ◌≤◌, ◌<◌, length, drop, ℤ, pos}
-use Rattle.std.proofs.Math.Path.{refl}
+use Rattle.std.proofs.Common.{inl, inr, arith}
+use Rattle.std.proofs.lemmas.Bool.{cases_Bool}
+use Rattle.std.specs.Prelude.{◌≡◌, List, ℕ, ◌+◌, ◌*◌, ◌≤◌, ◌<◌, length, ℤ, pos}
 use Rattle.std.proofs.Math.Bool.{true, false}
-use Rattle.std.proofs.Common.{arith}
-use Rattle.std.proofs.Math.ListN.{take}
 use Rattle.decimals.specs.Decimals.{scale_limit}
 use Rattle.sheets.specs.Entries.{field_of, kind_of}
 use Rattle.sheets.specs.Table.{has_list}
@@ -63,11 +62,10 @@ module _ (first : ℕ) (s : List ℤ) (n i : ℕ) (w : WellFormed first s n) (l 
       omega arith
 
   part_inside : list_at first s n i + list_length_at first s i ≤ length s
-  part_inside = go (has_list (tag_of first s i)) refl
-    where
-      go : (b : Bool) → has_list (tag_of first s i) ≡ b → list_at first s n i + list_length_at first s i ≤ length s
-      go true h = let inside = listed_inside h in rw (h, length_listed first s i h) inside
-      go false h = rw (h, length_unlisted first s i h) (omega arith)
+  part_inside = elim (cases_Bool (has_list (tag_of first s i))) [
+    | inl h ↦ let inside = listed_inside h in rw (h, length_listed first s i h) inside
+    | inr h ↦ rw (h, length_unlisted first s i h) (omega arith)
+  ]
 
   pub readable : Readable first s n i
   readable =
@@ -89,9 +87,7 @@ module _ (first : ℕ) (s : List ℤ) (n i : ℕ) (w : WellFormed first s n) (l 
 
   pub reads_elements : (predicate_of first s n i).elements ≡ elements_at first s n i
   unfolding entry_of predicate_as
-  reads_elements = go (has_list (tag_of first s i)) refl
-    where
-      go : (b : Bool) → has_list (tag_of first s i) ≡ b
-          → take (list_length_at first s i) (drop (list_at first s n i) s) ≡ elements_at first s n i
-      go true h = rw (h, (w.lists i l h).start)
-      go false h = rw (h, length_unlisted first s i h)
+  reads_elements = elim (cases_Bool (has_list (tag_of first s i))) [
+    | inl h ↦ rw (h, (w.lists i l h).start)
+    | inr h ↦ rw (h, length_unlisted first s i h)
+  ]

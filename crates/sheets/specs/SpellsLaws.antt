@@ -1,13 +1,15 @@
 -- Laws of `Spells` and of shapes: a tree takes up as many entries as it has, and no two trees are spelled by the same entries.
 -- Assumes nothing.
-use Rattle.std.specs.Prelude.{◌≡◌, refl, Bool, true, false, List, ℕ, zero, suc, ◌+◌, ◌≤◌, ℤ}
+use Rattle.std.specs.Prelude.{◌≡◌, refl, true, false, List, ℕ, zero, suc, ◌+◌, ◌≤◌, ℤ}
 use Rattle.std.proofs.Math.Path.{sym, subst⁻¹}
 use Rattle.std.proofs.Common.{ap, ap₂, ◌∙◌, true≢false, ne_eqb}
 use native.Mathlib.Omega.{arith}
+use Rattle.std.proofs.lemmas.Bool.{false_from_ne_true}
 use Rattle.lists.specs.And.{◌and◌}
 use Rattle.attributes.specs.Table.{is_between}
 use Rattle.ast.specs.Trees.{Tree, Join, Not, Value, entries}
-use Rattle.sheets.specs.Spells.{stands, shape_of, Spells}
+use Rattle.sheets.specs.declared.Shape.TheVariants.{Stands}
+use Rattle.sheets.specs.Spells.{shape_of, Spells}
 use Rattle.sheets.specs.TableLaws.{between_told}
 
 -- an entry has one shape
@@ -15,27 +17,23 @@ never : {A : Type 0} → ◌≡◌ {A = ℕ} 0 1 → A
 never z = absurd (omega arith)
 
 -- a kind is a predicate's exactly where it is outside 1 to 3
-pub shape_stands : (k : ℕ) → is_between 1 k 3 ≡ false → shape_of k ≡ stands
+pub shape_stands : (k : ℕ) → is_between 1 k 3 ≡ false → shape_of k ≡ Stands
 unfolding shape_of is_between ◌and◌
 shape_stands k h = rw (ne_eqb k 1 (apart 1 refl), ne_eqb k 2 (apart 2 refl), ne_eqb k 3 (apart 3 refl))
   where
     apart : (m : ℕ) → is_between 1 m 3 ≡ true → ¬ (k ≡ m)
     apart m b e = true≢false (sym b ∙ ap (λ (n : ℕ). is_between 1 n 3) (sym e) ∙ h)
 
-pub stands_shape : (k : ℕ) → shape_of k ≡ stands → is_between 1 k 3 ≡ false
+pub stands_shape : (k : ℕ) → shape_of k ≡ Stands → is_between 1 k 3 ≡ false
 unfolding shape_of
-stands_shape k h = go (is_between 1 k 3) refl
+stands_shape k h = false_from_ne_true _ (λ e. let r = between_told 1 k 3 e in operator k r.0 r.1 h)
   where
-    operator : (m : ℕ) → 1 ≤ m → m ≤ 3 → ¬ (shape_of m ≡ stands)
+    operator : (m : ℕ) → 1 ≤ m → m ≤ 3 → ¬ (shape_of m ≡ Stands)
     operator zero l u e = absurd (omega arith)
     operator (suc zero) l u e = never (cc)
     operator (suc (suc zero)) l u e = never (cc)
     operator (suc (suc (suc zero))) l u e = never (cc)
     operator (suc (suc (suc (suc m)))) l u e = absurd (omega arith)
-
-    go : (b : Bool) → is_between 1 k 3 ≡ b → b ≡ false
-    go true e = let r = between_told 1 k 3 e in absurd (operator k r.0 r.1 h)
-    go false e = refl
 
 module _ (first : ℕ) (s : List ℤ) where
   pub spells_size : (t : Tree ℕ) (i j : ℕ) → Spells first s t i j → j ≡ i + entries t

@@ -1,13 +1,16 @@
 -- The predicates of a sheet one by one, in prefix order: each names an attribute of the table and suits its kind. The first that does not
 -- gives the answer. Laws in `SuitingLaws`. Assumes nothing: these are definitions.
 use Rattle.std.specs.Prelude.{◌≡◌, true, cond, List, ℕ, zero, suc, ◌+◌, ◌*◌, ◌≤◌, ◌<◌, ltb, length, ℤ}
-use Rattle.error.specs.Answers.{Answer, Done, NoAttribute, NotSuited, then}
+use Rattle.error.specs.Answers.{Answer, Done, Refused, then}
+use Rattle.error.specs.declared.Refusal.TheVariants.{NoAttribute, NotSuited}
 use Rattle.attributes.specs.Table.{attribute_limit, table_size, kind_at, count_of as attributesIn}
 use Rattle.predicates.specs.Kinds.{kind_of as kindNumbered}
 use Rattle.predicates.specs.Suits.{suits_of}
 use Rattle.predicates.specs.Predicate.{Predicate}
 use Rattle.sheets.specs.Entries.{field_of, kind_of}
-use Rattle.sheets.specs.Spells.{Shape, joins, negates, stands, shape_of}
+use Rattle.sheets.specs.declared.Shape.{Shape}
+use Rattle.sheets.specs.declared.Shape.TheVariants.{Joins, Negates, Stands}
+use Rattle.sheets.specs.Spells.{shape_of}
 use Rattle.sheets.specs.Bodies.{tag_of}
 use Rattle.sheets.specs.WellFormed.{count_of}
 use Rattle.sheets.specs.Form.{answer_of}
@@ -16,14 +19,14 @@ use Rattle.sheets.specs.Form.{answer_of}
 unfoldable pub suit_answer : List ℕ → ℕ → ℕ → ℕ → Answer
 suit_answer table attribute kind tag =
     cond (ltb attribute (attributesIn table))
-    (cond (suits_of (kindNumbered kind) tag (kind_at table attribute)) Done NotSuited)
-    NoAttribute
+    (cond (suits_of (kindNumbered kind) tag (kind_at table attribute)) Done (Refused NotSuited))
+    (Refused NoAttribute)
 
 -- only a predicate is asked
 abbrev pub standing : Shape → Answer → Answer
-standing (joins o) a = Done
-standing negates a = Done
-standing stands a = a
+standing (Joins o) a = Done
+standing Negates a = Done
+standing Stands a = a
 
 unfoldable pub entry_answer : List ℕ → ℕ → List ℤ → ℕ → Answer
 entry_answer table first s i =

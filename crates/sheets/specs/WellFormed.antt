@@ -1,7 +1,8 @@
 -- A well-formed sheet, and what insert answers for a sheet's form, in the order of refusals. Both are facts; the tests that compute stand
 -- in `Form`, and `FormLaws` shows that they agree. Assumes nothing: these are definitions.
 use Rattle.std.specs.Prelude.{◌≡◌, Bool, true, List, ℕ, ◌+◌, ◌-◌, ◌<◌, ◌≤◌, length, get_or, ℤ, pos, ◌<ℤ◌}
-use Rattle.error.specs.Answers.{Answer, Done, SheetMalformed, LimitPassed}
+use Rattle.error.specs.Answers.{Answer, Done, Refused}
+use Rattle.error.specs.declared.Refusal.TheVariants.{SheetMalformed, LimitPassed}
 use Rattle.lists.specs.Sets.{ascends, list_limit}
 use Rattle.ast.specs.Trees.{Tree}
 use Rattle.sheets.specs.Entries.{natural_of, field_of, kind_of}
@@ -56,10 +57,10 @@ pub record Accepted (first : ℕ) (s : List ℤ) (n : ℕ) : Type 0 where
   pub short : (i : ℕ) → i < n → list_length_at first s i ≤ list_limit
 
 pub data Answers (first : ℕ) (s : List ℤ) : Answer → Type 0 where
-  empty : length s < first → Answers first s SheetMalformed
-  none : first ≤ length s → count_at first s <ℤ pos 1 → Answers first s SheetMalformed
-  many : first ≤ length s → pos entry_limit <ℤ count_at first s → Answers first s LimitPassed
-  malformed : (n : ℕ) → Counted first s n → ¬ WellFormed first s n → Answers first s SheetMalformed
+  empty : length s < first → Answers first s (Refused SheetMalformed)
+  none : first ≤ length s → count_at first s <ℤ pos 1 → Answers first s (Refused SheetMalformed)
+  many : first ≤ length s → pos entry_limit <ℤ count_at first s → Answers first s (Refused LimitPassed)
+  malformed : (n : ℕ) → Counted first s n → ¬ WellFormed first s n → Answers first s (Refused SheetMalformed)
   long : (n : ℕ) → Counted first s n → WellFormed first s n
-      → (i : ℕ) → i < n → list_limit < list_length_at first s i → Answers first s LimitPassed
+      → (i : ℕ) → i < n → list_limit < list_length_at first s i → Answers first s (Refused LimitPassed)
   good : (n : ℕ) → Accepted first s n → Answers first s Done

@@ -1,20 +1,40 @@
-// The rule sheet: n, then n entries of five numbers in prefix order, then the elements of their lists. `first` is the place of the first
-// entry, with n right before it: 1 in the edition of today.
+// The rule sheet: n, then n entries of five numbers in prefix order, then the elements of their lists.
 #![tactic(auto)]
 
 ghost use Rattle.std.specs.Prelude.{◌≡◌, ◌+◌, ◌*◌, ◌<◌, ◌≤◌, length, get_or, pos};
-ghost use Rattle.sheets.specs.Entries.{natural_of, field_of};
-ghost use Rattle.sheets.specs.Form.{answer_of};
+ghost use Rattle.error.specs.Answers.{answered};
+ghost use Rattle.sheets.specs.Entries.{natural_of, field_of, kind_of};
+ghost use Rattle.sheets.specs.Spells.{shape_of};
+ghost use Rattle.sheets.specs.Form.{form_answer};
+
+use error::Refusal;
+use evaluation::Operator;
 
 mod form;
 mod reading;
 mod suiting;
 mod table;
 
-pub use reading::{elements_of, read_predicate};
-pub use suiting::check_predicates;
+// The most entries of a sheet.
+pub const ENTRY_LIMIT: usize = 128;
 
-// An entry as it is handed on: the numbers of its predicate, the decimal in normal form, and where its list stands in the sheet.
+// The numbers of a sheet, and the place of its first entry, with n right before it: 1 in the edition of today.
+#[derive(Clone, Copy)]
+pub struct Sheet<'a> {
+    pub numbers: &'a [i64],
+    pub first: usize,
+}
+
+// What an entry is in the tree: And or Or over two subtrees, Not over one, or a predicate.
+#[derive(Clone, Copy, Debug, PartialEq, Eq)]
+pub enum Shape {
+    Joins(Operator),
+    Negates,
+    Stands,
+}
+
+// An entry as it is handed on: the numbers of its predicate, the decimal in normal form, and where its list stands in the sheet. Kind and
+// tag stay numbers: a sheet and a book's bytes hold them so.
 #[derive(Clone, Copy)]
 pub struct Entry {
     pub attribute: usize,
@@ -30,43 +50,56 @@ pub struct Entry {
 pub fn natural(x: i64) -> usize
     ensures { result ≡ natural_of x }
 {
-    if x < 0 {
-        18446744073709551615
-    } else {
-        x as usize
-    }
+    usize::try_from(x).unwrap_or(usize::MAX)
 }
 
-// The number at a place of a sheet.
-pub fn number(s: &[i64], at: usize) -> usize
-    requires { at < length s.now }
-    ensures { result ≡ natural_of (get_or s.now at (pos 0)) }
-{
-    natural(s[at])
-}
+impl Sheet<'_> {
+    // The number at a place of the sheet.
+    pub fn number(self, at: usize) -> usize
+        requires { at < length self.numbers.now }
+        ensures { result ≡ natural_of (get_or self.entry.numbers.now at (pos 0)) }
+    {
+        natural(self.numbers[at])
+    }
 
-// Number j of entry i: kind, attribute, tag, x, y.
-pub fn field(s: &[i64], first: usize, i: usize, j: usize) -> usize
-    requires { first + 5 * i + j < length s.now }
-    ensures { result ≡ field_of first s.now i j }
-{
-    number(s, first + 5 * i + j)
-}
+    // Number j of entry i: kind, attribute, tag, x, y.
+    pub fn field(self, i: usize, j: usize) -> usize
+        requires { self.first + 5 * i + j < length self.numbers.now }
+        ensures { result ≡ field_of self.entry.first self.entry.numbers.now i j }
+    {
+        self.number(self.first + 5 * i + j)
+    }
 
-// What insert answers for the form of a sheet: the first refusal of the order, or that it is well formed and within the limits.
-pub fn check_form(s: &[i64], first: usize) -> u8
-    requires { (1 ≤ first) × (first ≤ 2) }
-    ensures { result ≡ answer_of first s.now }
-{
-    if s.len() < first {
-        return error::SHEET_MALFORMED;
+    // What entry i is in the tree, by its kind.
+    #[tactic(auto, using(crate::proofs::SheetTests::sheet_tests), unfolding(crate::specs::Spells::shape_of))]
+    pub fn shape(self, i: usize) -> Shape
+        requires { self.first + 5 * i < length self.numbers.now }
+        ensures { result ≡ shape_of (kind_of self.entry.first self.entry.numbers.now i) }
+    {
+        match self.field(i, 0) {
+            1 => Shape::Joins(Operator::And),
+            2 => Shape::Joins(Operator::Or),
+            3 => Shape::Negates,
+            _ => Shape::Stands,
+        }
     }
-    let n = s[first - 1];
-    if n < 1 {
-        return error::SHEET_MALFORMED;
+
+    // What insert answers for the form of a sheet: the first refusal of the order, or that it is well formed and within the limits.
+    #[tactic(auto, using(crate::proofs::SheetTests::signed_tests), unfolding(crate::specs::Form::form_answer))]
+    pub fn check_form(self) -> Result<(), Refusal>
+        requires { (1 ≤ self.first) × (self.first ≤ 2) }
+        ensures { answered result ≡ form_answer self.entry.first self.entry.numbers.now }
+    {
+        if self.numbers.len() < self.first {
+            return Err(Refusal::SheetMalformed);
+        }
+        let n = self.numbers[self.first - 1];
+        if n < 1 {
+            return Err(Refusal::SheetMalformed);
+        }
+        if (ENTRY_LIMIT as i64) < n {
+            return Err(Refusal::LimitPassed);
+        }
+        self.check_entries(natural(n))
     }
-    if table::ENTRY_LIMIT < n {
-        return error::LIMIT_PASSED;
-    }
-    form::counted(s, first, natural(n))
 }

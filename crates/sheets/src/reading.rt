@@ -5,57 +5,57 @@ ghost use Rattle.sheets.specs.Entries.{field_of};
 ghost use Rattle.sheets.specs.WellFormed.{WellFormed};
 ghost use Rattle.sheets.specs.Reading.{scaled_at, entry_of};
 
-use super::{Entry, field, table};
+use super::{Entry, Sheet, table};
 use decimals::Decimal;
 
-// x of entry i with the scale y, in normal form.
-fn scaled(s: &[i64], first: usize, i: usize) -> Decimal
-    requires { (first + 5 * i + 5 ≤ length s.now) × (field_of first s.now i 4 ≤ scale_limit) }
-    ensures { result ≡ scaled_at first s.now i }
-{
-    let scale = field(s, first, i, 4) as u8;
-    let number = s[first + 5 * i + 3];
-    decimals::normal(Decimal { number, scale })
-}
+impl<'a> Sheet<'a> {
+    // x of entry i with the scale y, in normal form.
+    #[tactic(auto, using(crate::proofs::SheetTests::signed_tests), unfolding(crate::specs::Reading::scaled_at))]
+    fn scaled(self, i: usize) -> Decimal
+        requires { (self.first + 5 * i + 5 ≤ length self.numbers.now) × (field_of self.first self.numbers.now i 4 ≤ scale_limit) }
+        ensures { result ≡ scaled_at self.entry.first self.entry.numbers.now i }
+    {
+        let scale = self.field(i, 4) as u8;
+        let number = self.numbers[self.first + 5 * i + 3];
+        decimals::normal(Decimal { number, scale })
+    }
 
-// Entry i of a sheet of n entries.
-pub fn read_predicate(s: &[i64], first: usize, n: usize, i: usize) -> Entry
-    requires { WellFormed first s.now n × (i < n) }
-    ensures { result ≡ entry_of first s.now n i }
-{
-    let attribute = field(s, first, i, 1);
-    let kind = field(s, first, i, 0) as u8;
-    let tag = field(s, first, i, 2);
-    if table::has_list(tag) {
-        let start = first + 5 * n + field(s, first, i, 3);
-        let length = field(s, first, i, 4);
-        return Entry {
-            attribute,
-            kind,
+    // Entry i of a sheet of n entries.
+    pub fn read_predicate(self, n: usize, i: usize) -> Entry
+        requires { WellFormed self.first self.numbers.now n × (i < n) }
+        ensures { result ≡ entry_of self.entry.first self.entry.numbers.now n i }
+    {
+        let tag = self.field(i, 2);
+        let bare = Entry {
+            attribute: self.field(i, 1),
+            kind: self.field(i, 0) as u8,
             tag: tag as u8,
             number: 0,
             scale: 0,
-            start,
-            length,
+            start: 0,
+            length: 0,
         };
+        if table::has_list(tag) {
+            Entry {
+                start: self.first + 5 * n + self.field(i, 3),
+                length: self.field(i, 4),
+                ..bare
+            }
+        } else {
+            let literal = self.scaled(i);
+            Entry {
+                number: literal.number,
+                scale: literal.scale,
+                ..bare
+            }
+        }
     }
-    let literal = scaled(s, first, i);
-    Entry {
-        attribute,
-        kind,
-        tag: tag as u8,
-        number: literal.number,
-        scale: literal.scale,
-        start: 0,
-        length: 0,
-    }
-}
 
-// The elements of a list that stands in the sheet.
-pub fn elements_of(s: &[i64], start: usize, size: usize) -> &[i64]
-    requires { start + size ≤ length s.now }
-    ensures { result.now ≡ take size (drop start s.now) }
-{
-    let end = start + size;
-    &s[start..end]
+    // The elements of a list that stands in the sheet.
+    pub fn elements_of(self, start: usize, size: usize) -> &'a [i64]
+        requires { start + size ≤ length self.numbers.now }
+        ensures { result.now ≡ take size (drop start self.entry.numbers.now) }
+    {
+        &self.numbers[start..start + size]
+    }
 }

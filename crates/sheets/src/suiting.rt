@@ -1,54 +1,58 @@
 // The predicates of a sheet one by one: whether each names an attribute of the table and suits its kind.
 ghost use Rattle.std.specs.Prelude.{◌≡◌, ◌+◌, ◌*◌, ◌<◌, ◌≤◌, length};
-ghost use Rattle.error.specs.Answers.{number};
+ghost use Rattle.error.specs.Answers.{answered};
 ghost use Rattle.attributes.specs.Table.{attribute_limit, table_size};
 ghost use Rattle.sheets.specs.Suiting.{suit_answer, entry_answer, predicates_answer, ReadyTable, ReadyEntry, ReadySheet};
 
-use super::field;
+use super::{Shape, Sheet};
 use attributes::AttributeId;
+use error::Refusal;
 
 // The answer for a predicate by its attribute, kind and tag.
-fn suit_answer(table: &[u8], attribute: usize, kind: u8, tag: u8) -> u8
-    requires { ReadyTable table.now }
-    ensures { result ≡ number (suit_answer table.now attribute kind tag) }
+#[tactic(auto, using(crate::proofs::SheetTests::sheet_tests), unfolding(crate::specs::Suiting::suit_answer))]
+fn check_suits(attributes: &[u8], attribute: usize, kind: u8, tag: u8) -> Result<(), Refusal>
+    requires { ReadyTable attributes.now }
+    ensures { answered result ≡ suit_answer attributes.now attribute kind tag }
 {
-    if attributes::len(table) <= attribute {
-        return error::NO_ATTRIBUTE;
+    if attributes::len(attributes) <= attribute {
+        return Err(Refusal::NoAttribute);
     }
     let wanted = predicates::kind_of(kind);
-    let found = attributes::by_id(table, AttributeId(attribute));
-    if predicates::suits(wanted, tag, found) {
-        return error::DONE;
+    let found = attributes::by_id(attributes, AttributeId(attribute));
+    if !predicates::suits(wanted, tag, found) {
+        return Err(Refusal::NotSuited);
     }
-    error::NOT_SUITED
+    Ok(())
 }
 
-// The answer for entry i.
-fn entry_answer(s: &[i64], first: usize, i: usize, table: &[u8]) -> u8
-    requires { ReadyEntry first s.now i table.now }
-    ensures { result ≡ number (entry_answer table.now first s.now i) }
-{
-    let kind = field(s, first, i, 0);
-    if attributes::between(1, kind, 3) {
-        return error::DONE;
-    }
-    let tag = field(s, first, i, 2) as u8;
-    suit_answer(table, field(s, first, i, 1), kind as u8, tag)
-}
-
-// The answer for the predicates of a sheet whose form is accepted: that of the first faulty one.
-pub fn check_predicates(s: &[i64], first: usize, table: &[u8]) -> u8
-    requires { ReadySheet first s.now table.now }
-    ensures { result ≡ number (predicates_answer table.now first s.now) }
-{
-    let n = super::number(s, first - 1);
-    let mut i = 0;
-    while i < n {
-        let answer = entry_answer(s, first, i, table);
-        if answer != error::DONE {
-            return answer;
+impl Sheet<'_> {
+    // The answer for entry i: only a predicate is asked.
+    #[tactic(auto, using(crate::proofs::SheetTests::sheet_tests), unfolding(crate::specs::Suiting::entry_answer))]
+    fn check_entry(self, i: usize, attributes: &[u8]) -> Result<(), Refusal>
+        requires { ReadyEntry self.first self.numbers.now i attributes.now }
+        ensures { answered result ≡ entry_answer attributes.now self.entry.first self.entry.numbers.now i }
+    {
+        match self.shape(i) {
+            Shape::Joins(_) | Shape::Negates => Ok(()),
+            Shape::Stands => {
+                let kind = self.field(i, 0) as u8;
+                let tag = self.field(i, 2) as u8;
+                check_suits(attributes, self.field(i, 1), kind, tag)
+            }
         }
-        i += 1;
     }
-    error::DONE
+
+    // The answer for the predicates of a sheet whose form is accepted: that of the first faulty one. The attributes stay a slice, since
+    // `ReadySheet` asks less of them than that they are sound.
+    #[tactic(auto, using(crate::proofs::SuitingLaws::suiting_steps))]
+    pub fn check_predicates(self, attributes: &[u8]) -> Result<(), Refusal>
+        requires { ReadySheet self.first self.numbers.now attributes.now }
+        ensures { answered result ≡ predicates_answer attributes.now self.entry.first self.entry.numbers.now }
+    {
+        let n = self.number(self.first - 1);
+        for i in 0..n {
+            self.check_entry(i, attributes)?;
+        }
+        Ok(())
+    }
 }

@@ -51,25 +51,13 @@ module _ {lo hi : ℕ} {b d : List ℕ} (p : Only lo hi b d) (at : ℕ) where
       let e7 = word_within p at 24 o 4 8 (omega arith) in
       let e8 = word_within p at 24 o 4 12 (omega arith) in
       let e9 = word_within p at 24 o 8 16 (omega arith) in
-      λ j.
-      record {
-        kind = e0 j;
-        attribute = e1 j;
-        tag = e2 j;
-        scale = e3 j;
-        level = e4 j;
-        size = e5 j;
-        length = e6 j;
-        start = e7 j;
-        cost = e8 j;
-        number = e9 j;
-      }
+      cc
 
   pub rule_only : Outside lo hi at 8 → rule_in d at ≡ rule_in b at
   rule_only o =
       let e0 = word_only p 4 at (⊎_elim (λ u. inl (omega arith)) (λ v. inr v) o) in
       let e1 = word_within p at 8 o 4 4 (omega arith) in
-      λ j. record { id = e0 j; root = e1 j }
+      cc
 
 -- ---- what a write of a record reaches: the bytes after each field's write, and then, from the last write back, what follows it
 

@@ -3,6 +3,8 @@
 use Rattle.std.specs.Prelude.{List, ℕ, ◌+◌, ◌*◌, ◌<◌, ℤ}
 use Rattle.words.specs.Word.{word, put, signed_word}
 use Rattle.store.specs.declared.Limits.{Limits}
+use Rattle.store.specs.declared.Count.{Count}
+use Rattle.store.specs.declared.Count.TheVariants.{Rules, Parts, Places, Elements}
 use Rattle.store.specs.declared.Record.{Record}
 use Rattle.store.specs.declared.Rule.{Rule}
 use Rattle.store.specs.Layout.{rule_count_at, part_count_at, place_count_at, element_count_at}
@@ -21,6 +23,16 @@ place_count b = word 4 b place_count_at
 
 abbrev pub element_count : List ℕ → ℕ
 element_count b = word 4 b element_count_at
+
+-- where each stands, and any of them
+abbrev pub count_at : Count → ℕ
+count_at Rules = rule_count_at
+count_at Parts = part_count_at
+count_at Places = place_count_at
+count_at Elements = element_count_at
+
+abbrev pub count_of : Count → List ℕ → ℕ
+count_of which b = word 4 b (count_at which)
 
 -- ---- a part's record, in 24 bytes
 

@@ -1,15 +1,20 @@
 // The store: a book's bytes, lent as a slice and laid out by limits that are parameters, and what reads and writes one thing in them.
 // All other code goes through these functions. specs/Layout.antt says where each table stands, specs/Tables.antt how the bytes are read as
 // a book.
+// Bytes and limits stay two parameters: a reader has `&[u8]` and a writer `&mut [u8]`, so that a type of both would be two with the same
+// methods, and `get_count` and `attributes_of` ask for less than the whole book.
 #![tactic(auto)]
 
 ghost use Rattle.std.specs.Prelude.{◌≡◌, ◌+◌, ◌*◌, ◌<◌, ◌≤◌, length, take, drop};
 ghost use Rattle.words.specs.Word.{put};
 ghost use Rattle.store.specs.Layout.{attributes_at, rules_at, parts_at, places_at, elements_at, order_at, size_of, Within, Laid};
-ghost use Rattle.store.specs.Layout.{rule_count_at, part_count_at, place_count_at, element_count_at, attributes_of};
-ghost use Rattle.store.specs.Records.{rule_count, part_count, place_count, element_count, put_front, put_back};
+ghost use Rattle.store.specs.Layout.{attributes_of};
+ghost use Rattle.store.specs.Records.{count_at, count_of, put_front, put_back};
 ghost use Rattle.store.specs.Records.{record_at, put_record, rule_at, put_rule};
 ghost use Rattle.store.specs.Records.{place_at, put_place, element_word, put_element, entry_at, put_entry};
+ghost use Rattle.store.specs.Heads.{head_at};
+
+use words::Word;
 
 // How many rules, parts, child places and list elements a book has room for.
 #[derive(Clone, Copy)]
@@ -22,6 +27,7 @@ pub struct Limits {
 
 // A part. `start` and `length` are its run of child places or of list elements; `number` is the two's complement of a predicate's number.
 // `level`, `size` and `cost` are those of the part as a tree.
+// The kind stays a number: `get_record` reads any bytes and cannot fail, and its clause gives the byte itself.
 #[derive(Clone, Copy)]
 pub struct Record {
     pub kind: u8,
@@ -101,61 +107,38 @@ pub fn size_of(limits: Limits) -> usize
     order_at(limits) + ENTRY_SIZE * limits.parts
 }
 
-// The counts.
-pub fn rule_count(bytes: &[u8]) -> usize
+// What a book counts in its head.
+#[derive(Clone, Copy)]
+pub enum Count {
+    Rules,
+    Parts,
+    Places,
+    Elements,
+}
+
+fn count_at(which: Count) -> usize
+    ensures { result ≡ count_at which }
+{
+    match which {
+        Count::Rules => RULE_COUNT_AT,
+        Count::Parts => PART_COUNT_AT,
+        Count::Places => PLACE_COUNT_AT,
+        Count::Elements => ELEMENT_COUNT_AT,
+    }
+}
+
+pub fn get_count(bytes: &[u8], which: Count) -> usize
     requires { attributes_at ≤ length bytes.now }
-    ensures { result ≡ rule_count bytes.now }
+    ensures { result ≡ count_of which bytes.now }
 {
-    words::read_u32(bytes, RULE_COUNT_AT) as usize
+    u32::read(bytes, count_at(which)) as usize
 }
 
-pub fn part_count(bytes: &[u8]) -> usize
-    requires { attributes_at ≤ length bytes.now }
-    ensures { result ≡ part_count bytes.now }
-{
-    words::read_u32(bytes, PART_COUNT_AT) as usize
-}
-
-pub fn place_count(bytes: &[u8]) -> usize
-    requires { attributes_at ≤ length bytes.now }
-    ensures { result ≡ place_count bytes.now }
-{
-    words::read_u32(bytes, PLACE_COUNT_AT) as usize
-}
-
-pub fn element_count(bytes: &[u8]) -> usize
-    requires { attributes_at ≤ length bytes.now }
-    ensures { result ≡ element_count bytes.now }
-{
-    words::read_u32(bytes, ELEMENT_COUNT_AT) as usize
-}
-
-pub fn put_rule_count(bytes: &mut [u8], count: usize)
+pub fn put_count(bytes: &mut [u8], which: Count, count: usize)
     requires { (attributes_at ≤ length bytes.old) × (count ≤ 65535) }
-    ensures { bytes.new ≡ put 4 bytes.old rule_count_at count }
+    ensures { bytes.new ≡ put 4 bytes.old (count_at which) count }
 {
-    words::write_u32(bytes, RULE_COUNT_AT, count as u32)
-}
-
-pub fn put_part_count(bytes: &mut [u8], count: usize)
-    requires { (attributes_at ≤ length bytes.old) × (count ≤ 65535) }
-    ensures { bytes.new ≡ put 4 bytes.old part_count_at count }
-{
-    words::write_u32(bytes, PART_COUNT_AT, count as u32)
-}
-
-pub fn put_place_count(bytes: &mut [u8], count: usize)
-    requires { (attributes_at ≤ length bytes.old) × (count ≤ 65535) }
-    ensures { bytes.new ≡ put 4 bytes.old place_count_at count }
-{
-    words::write_u32(bytes, PLACE_COUNT_AT, count as u32)
-}
-
-pub fn put_element_count(bytes: &mut [u8], count: usize)
-    requires { (attributes_at ≤ length bytes.old) × (count ≤ 65535) }
-    ensures { bytes.new ≡ put 4 bytes.old element_count_at count }
-{
-    words::write_u32(bytes, ELEMENT_COUNT_AT, count as u32)
+    (count as u32).write(bytes, count_at(which))
 }
 
 // The attribute table, as a part of the book.
@@ -171,9 +154,10 @@ pub fn get_rule(bytes: &[u8], limits: Limits, i: usize) -> Rule
     ensures { result ≡ rule_at bytes.now i }
 {
     let at = RULES_AT + RULE_SIZE * i;
-    let id = words::read_u32(bytes, at);
-    let root = words::read_u32(bytes, at + 4);
-    Rule { id, root }
+    Rule {
+        id: u32::read(bytes, at),
+        root: u32::read(bytes, at + 4),
+    }
 }
 
 pub fn put_rule(bytes: &mut [u8], limits: Limits, i: usize, rule: Rule)
@@ -181,8 +165,8 @@ pub fn put_rule(bytes: &mut [u8], limits: Limits, i: usize, rule: Rule)
     ensures { bytes.new ≡ put_rule bytes.old i rule }
 {
     let at = RULES_AT + RULE_SIZE * i;
-    words::write_u32(bytes, at, rule.id);
-    words::write_u32(bytes, at + 4, rule.root)
+    rule.id.write(bytes, at);
+    rule.root.write(bytes, at + 4)
 }
 
 pub fn get_record(bytes: &[u8], limits: Limits, i: usize) -> Record
@@ -190,27 +174,17 @@ pub fn get_record(bytes: &[u8], limits: Limits, i: usize) -> Record
     ensures { result ≡ record_at limits bytes.now i }
 {
     let at = parts_at(limits) + RECORD_SIZE * i;
-    let kind = words::read_u8(bytes, at);
-    let attribute = words::read_u8(bytes, at + 1);
-    let tag = words::read_u8(bytes, at + 2);
-    let scale = words::read_u8(bytes, at + 3);
-    let level = words::read_u8(bytes, at + 4);
-    let size = words::read_u8(bytes, at + 5);
-    let length = words::read_u16(bytes, at + 6);
-    let start = words::read_u32(bytes, at + 8);
-    let cost = words::read_u32(bytes, at + 12);
-    let number = words::read_u64(bytes, at + 16);
     Record {
-        kind,
-        attribute,
-        tag,
-        scale,
-        level,
-        size,
-        length,
-        start,
-        cost,
-        number,
+        kind: u8::read(bytes, at),
+        attribute: u8::read(bytes, at + 1),
+        tag: u8::read(bytes, at + 2),
+        scale: u8::read(bytes, at + 3),
+        level: u8::read(bytes, at + 4),
+        size: u8::read(bytes, at + 5),
+        length: u16::read(bytes, at + 6),
+        start: u32::read(bytes, at + 8),
+        cost: u32::read(bytes, at + 12),
+        number: u64::read(bytes, at + 16),
     }
 }
 
@@ -218,24 +192,25 @@ fn put_front(bytes: &mut [u8], at: usize, content: Record)
     requires { at + 24 ≤ length bytes.old }
     ensures { bytes.new ≡ put_front bytes.old at content }
 {
-    words::write_u8(bytes, at, content.kind);
-    words::write_u8(bytes, at + 1, content.attribute);
-    words::write_u8(bytes, at + 2, content.tag);
-    words::write_u8(bytes, at + 3, content.scale);
-    words::write_u8(bytes, at + 4, content.level);
-    words::write_u8(bytes, at + 5, content.size);
-    words::write_u16(bytes, at + 6, content.length)
+    content.kind.write(bytes, at);
+    content.attribute.write(bytes, at + 1);
+    content.tag.write(bytes, at + 2);
+    content.scale.write(bytes, at + 3);
+    content.level.write(bytes, at + 4);
+    content.size.write(bytes, at + 5);
+    content.length.write(bytes, at + 6)
 }
 
 fn put_back(bytes: &mut [u8], at: usize, content: Record)
     requires { at + 24 ≤ length bytes.old }
     ensures { bytes.new ≡ put_back bytes.old at content }
 {
-    words::write_u32(bytes, at + 8, content.start);
-    words::write_u32(bytes, at + 12, content.cost);
-    words::write_u64(bytes, at + 16, content.number)
+    content.start.write(bytes, at + 8);
+    content.cost.write(bytes, at + 12);
+    content.number.write(bytes, at + 16)
 }
 
+#[tactic(auto, unfolding(crate::specs::Records::put_record_in))]
 pub fn put_record(bytes: &mut [u8], limits: Limits, i: usize, content: Record)
     requires { Laid limits bytes.old × (i < limits.parts) }
     ensures { bytes.new ≡ put_record limits bytes.old i content }
@@ -245,18 +220,20 @@ pub fn put_record(bytes: &mut [u8], limits: Limits, i: usize, content: Record)
     put_back(bytes, at, content)
 }
 
+// Child places, list elements and entries of the order table keep a pair of functions each: a trait over the three tables would be longer
+// than the six one-line bodies, for it has to state each table's place, limit and number, and that the table lies within the book.
 pub fn get_place(bytes: &[u8], limits: Limits, k: usize) -> u16
     requires { Laid limits bytes.now × (k < limits.places) }
     ensures { result ≡ place_at limits bytes.now k }
 {
-    words::read_u16(bytes, places_at(limits) + PLACE_SIZE * k)
+    u16::read(bytes, places_at(limits) + PLACE_SIZE * k)
 }
 
 pub fn put_place(bytes: &mut [u8], limits: Limits, k: usize, child: u16)
     requires { Laid limits bytes.old × (k < limits.places) }
     ensures { bytes.new ≡ put_place limits bytes.old k child }
 {
-    words::write_u16(bytes, places_at(limits) + PLACE_SIZE * k, child)
+    child.write(bytes, places_at(limits) + PLACE_SIZE * k)
 }
 
 // A list element, as its two's complement.
@@ -264,14 +241,14 @@ pub fn get_element(bytes: &[u8], limits: Limits, k: usize) -> u64
     requires { Laid limits bytes.now × (k < limits.elements) }
     ensures { result ≡ element_word limits bytes.now k }
 {
-    words::read_u64(bytes, elements_at(limits) + ELEMENT_SIZE * k)
+    u64::read(bytes, elements_at(limits) + ELEMENT_SIZE * k)
 }
 
 pub fn put_element(bytes: &mut [u8], limits: Limits, k: usize, element: u64)
     requires { Laid limits bytes.old × (k < limits.elements) }
     ensures { bytes.new ≡ put_element limits bytes.old k element }
 {
-    words::write_u64(bytes, elements_at(limits) + ELEMENT_SIZE * k, element)
+    element.write(bytes, elements_at(limits) + ELEMENT_SIZE * k)
 }
 
 // The bytes of a whole list, as a part of the book.
@@ -289,14 +266,14 @@ pub fn get_entry(bytes: &[u8], limits: Limits, k: usize) -> u16
     requires { Laid limits bytes.now × (k < limits.parts) }
     ensures { result ≡ entry_at limits bytes.now k }
 {
-    words::read_u16(bytes, order_at(limits) + ENTRY_SIZE * k)
+    u16::read(bytes, order_at(limits) + ENTRY_SIZE * k)
 }
 
 pub fn put_entry(bytes: &mut [u8], limits: Limits, k: usize, part: u16)
     requires { Laid limits bytes.old × (k < limits.parts) }
     ensures { bytes.new ≡ put_entry limits bytes.old k part }
 {
-    words::write_u16(bytes, order_at(limits) + ENTRY_SIZE * k, part)
+    part.write(bytes, order_at(limits) + ENTRY_SIZE * k)
 }
 
 // What the order of two parts looks at first: the kind, the first four bytes as one number, the number, and the run of child places or of
@@ -310,23 +287,16 @@ pub struct Head {
     pub start: usize,
 }
 
-ghost use Rattle.store.specs.Heads.{head_at};
-
 pub fn get_head(bytes: &[u8], limits: Limits, i: usize) -> Head
     requires { Laid limits bytes.now × (i < limits.parts) }
     ensures { result ≡ head_at limits bytes.now i }
 {
     let at = parts_at(limits) + RECORD_SIZE * i;
-    let kind = words::read_u8(bytes, at);
-    let first = words::read_u32(bytes, at);
-    let number = words::read_u64(bytes, at + 16);
-    let length = words::read_u16(bytes, at + 6) as usize;
-    let start = words::read_u32(bytes, at + 8) as usize;
     Head {
-        kind,
-        first,
-        number,
-        length,
-        start,
+        kind: u8::read(bytes, at),
+        first: u32::read(bytes, at),
+        number: u64::read(bytes, at + 16),
+        length: u16::read(bytes, at + 6) as usize,
+        start: u32::read(bytes, at + 8) as usize,
     }
 }

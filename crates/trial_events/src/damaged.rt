@@ -1,111 +1,107 @@
 // Events that do not suit the table, each with one fault; and faults that are not judged.
-use crate::writing;
+use attributes::AttributeTable;
 use events::Event;
 use filling::Reading;
 use std::io;
 
-// Whether the event suits, and the answers to a reading that is right and to one of no attribute.
-fn judged(rt: &impl Print, table: &[u8], event: Event) -> io::Result<()> {
-    if attributes::is_sound(table) {
-        writing::truth(rt, events::suits(table, event))?;
-        let right = filling::fill(table, event, b"wind", Reading::Integer(7), &[]);
-        let wrong = filling::fill(table, event, b"wand", Reading::Integer(7), &[]);
-        println!(rt; " {} {}", right.answer, wrong.answer)?;
-    }
-    Ok(())
-}
+// What stands at the place of an attribute, whatever the table says of it: the attribute's number, a kind's, a number, a scale and a length.
+type Place = (usize, u8, i64, u8, usize);
 
-// A value at a place, whatever the table says of it.
-fn put(
-    rt: &impl Print,
-    table: &[u8],
-    event: Event,
-    i: usize,
-    kind: u8,
-    number: i64,
-    scale: u8,
-    length: usize,
-) -> io::Result<()> {
-    if i < attributes::ATTRIBUTE_LIMIT {
-        let mut next = event;
-        next.kinds[i] = kind;
-        next.numbers[i] = number;
-        next.scales[i] = scale;
-        next.lengths[i] = length;
-        judged(rt, table, next)?;
-    }
-    Ok(())
-}
+const SCALARS: [Place; 8] = [
+    (0, 3, 5, 28, 0),
+    (0, 3, 5, 29, 0),
+    (1, 1, 1, 0, 0),
+    (1, 1, 2, 0, 0),
+    (1, 1, -1, 0, 0),
+    (3, 4, 65535, 0, 0),
+    (3, 4, 65536, 0, 0),
+    (3, 4, -1, 0, 0),
+];
 
-fn counts(rt: &impl Print, table: &[u8], event: Event) -> io::Result<()> {
-    let mut fewer = event;
-    fewer.count = 5;
-    judged(rt, table, fewer)?;
-    let mut more = event;
-    more.count = 7;
-    judged(rt, table, more)?;
-    let mut most = event;
-    most.count = 18446744073709551615;
-    judged(rt, table, most)
-}
-
-fn scalars(rt: &impl Print, table: &[u8], event: Event) -> io::Result<()> {
-    put(rt, table, event, 0, 3, 5, 28, 0)?;
-    put(rt, table, event, 0, 3, 5, 29, 0)?;
-    put(rt, table, event, 1, 1, 1, 0, 0)?;
-    put(rt, table, event, 1, 1, 2, 0, 0)?;
-    put(rt, table, event, 1, 1, -1, 0, 0)?;
-    put(rt, table, event, 3, 4, 65535, 0, 0)?;
-    put(rt, table, event, 3, 4, 65536, 0, 0)?;
-    put(rt, table, event, 3, 4, -1, 0, 0)
-}
-
-fn kinds(rt: &impl Print, table: &[u8], event: Event) -> io::Result<()> {
-    put(rt, table, event, 2, 1, 0, 0, 0)?;
-    put(rt, table, event, 2, 2, 5, 255, 1000)?;
-    put(rt, table, event, 2, 7, 0, 0, 0)?;
-    put(rt, table, event, 2, 0, 5, 255, 1000)?;
-    put(rt, table, event, 6, 9, 5, 255, 1000)
-}
+const KINDS: [Place; 5] = [
+    (2, 1, 0, 0, 0),
+    (2, 2, 5, 255, 1000),
+    (2, 7, 0, 0, 0),
+    (2, 0, 5, 255, 1000),
+    (6, 9, 5, 255, 1000),
+];
 
 // The flags of the event given are the numbers from 1 to 32.
-fn lengths(rt: &impl Print, table: &[u8], event: Event) -> io::Result<()> {
-    put(rt, table, event, 4, 5, 0, 0, 0)?;
-    put(rt, table, event, 4, 5, 0, 0, 32)?;
-    put(rt, table, event, 4, 5, 0, 0, 33)?;
-    put(rt, table, event, 4, 5, 0, 0, 18446744073709551615)?;
-    put(rt, table, event, 4, 0, 0, 0, 33)
+const LENGTHS: [Place; 5] = [
+    (4, 5, 0, 0, 0),
+    (4, 5, 0, 0, 32),
+    (4, 5, 0, 0, 33),
+    (4, 5, 0, 0, usize::MAX),
+    (4, 0, 0, 0, 33),
+];
+
+// Elements of the words, each with its place in their row. The sky of the event given is the words from 0 to 31.
+const ELEMENTS: [(usize, i64); 7] = [
+    (0, 0),
+    (0, 1),
+    (0, -1),
+    (1, 0),
+    (2, 65535),
+    (2, 65536),
+    (3, 65536),
+];
+
+// Whether the event suits, and the answers to a reading that is right and to one of no attribute.
+fn judged(rt: &impl Print, table: AttributeTable, event: &Event) -> io::Result<()> {
+    let suits = if events::suits(table, event) {
+        "yes"
+    } else {
+        "no"
+    };
+    let right = filling::fill(table, *event, b"wind", Reading::Integer(7), &[]);
+    let wrong = filling::fill(table, *event, b"wand", Reading::Integer(7), &[]);
+    println!(rt; " {suits} {} {}", right.number(), wrong.number())
 }
 
-// An element of the words at a place of their row.
-fn element(rt: &impl Print, table: &[u8], event: Event, k: usize, x: i64) -> io::Result<()> {
-    if k < lists::LIST_LIMIT {
-        let mut next = event;
-        let at = lists::LIST_LIMIT * 5 + k;
-        next.kinds[5] = 6;
-        next.lengths[5] = 3;
-        next.lists[at] = x;
-        judged(rt, table, next)?;
+fn counts(rt: &impl Print, table: AttributeTable, event: &Event) -> io::Result<()> {
+    for count in [5, 7, usize::MAX] {
+        judged(rt, table, &Event { count, ..*event })?;
     }
     Ok(())
 }
 
-// The sky of the event given is the words from 0 to 31.
-fn elements(rt: &impl Print, table: &[u8], event: Event) -> io::Result<()> {
-    element(rt, table, event, 0, 0)?;
-    element(rt, table, event, 0, 1)?;
-    element(rt, table, event, 0, -1)?;
-    element(rt, table, event, 1, 0)?;
-    element(rt, table, event, 2, 65535)?;
-    element(rt, table, event, 2, 65536)?;
-    element(rt, table, event, 3, 65536)
+fn places(
+    rt: &impl Print,
+    table: AttributeTable,
+    event: &Event,
+    places: &[Place],
+) -> io::Result<()> {
+    for (i, kind, number, scale, length) in places {
+        if *i < attributes::ATTRIBUTE_LIMIT {
+            let mut next = *event;
+            next.kinds[*i] = *kind;
+            next.numbers[*i] = *number;
+            next.scales[*i] = *scale;
+            next.lengths[*i] = *length;
+            judged(rt, table, &next)?;
+        }
+    }
+    Ok(())
 }
 
-pub fn run(rt: &impl Print, table: &[u8; attributes::TABLE_SIZE], event: Event) -> io::Result<()> {
+fn elements(rt: &impl Print, table: AttributeTable, event: &Event) -> io::Result<()> {
+    for (k, x) in ELEMENTS {
+        if k < lists::LIST_LIMIT {
+            let mut next = *event;
+            next.kinds[5] = 6;
+            next.lengths[5] = 3;
+            next.lists[lists::LIST_LIMIT * 5 + k] = x;
+            judged(rt, table, &next)?;
+        }
+    }
+    Ok(())
+}
+
+pub fn run(rt: &impl Print, table: AttributeTable, event: &Event) -> io::Result<()> {
     judged(rt, table, event)?;
     counts(rt, table, event)?;
-    scalars(rt, table, event)?;
-    kinds(rt, table, event)?;
-    lengths(rt, table, event)?;
+    places(rt, table, event, &SCALARS)?;
+    places(rt, table, event, &KINDS)?;
+    places(rt, table, event, &LENGTHS)?;
     elements(rt, table, event)
 }

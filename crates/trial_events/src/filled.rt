@@ -1,5 +1,6 @@
 // Readings of every kind for every attribute, at their limits and past them; unknown names; lists that are not in order.
 use crate::showing;
+use attributes::AttributeTable;
 use events::{Event, StringId};
 use filling::Reading;
 use std::io;
@@ -10,129 +11,100 @@ const LONG: [i64; 33] = [
     8, 7, 6, 5, 4, 3, 2, 1, 0,
 ];
 
+// A reading of each kind.
+const READINGS: [Reading; 7] = [
+    Reading::Undefined,
+    Reading::Boolean(true),
+    Reading::Integer(i64::MIN),
+    Reading::Float(i64::MAX, 28),
+    Reading::String(StringId(65535)),
+    Reading::IntegerList,
+    Reading::StringList,
+];
+
 // Hands in a reading, and writes the name, the answer and the event after.
-pub fn given(
+fn given(
     rt: &impl Print,
-    table: &[u8],
-    event: Event,
+    table: AttributeTable,
+    event: &mut Event,
     name: &[u8],
     reading: Reading,
     list: &[i64],
-) -> io::Result<Event> {
-    if !attributes::is_sound(table) {
-        println!(rt; "damaged")?;
-        return Ok(event);
-    }
-    let filled = filling::fill(table, event, name, reading, list);
-    rt.write_all(name)?;
-    print!(rt; " {}:", filled.answer)?;
-    let next = filled.event;
-    showing::event(rt, next)?;
-    Ok(next)
-}
-
-// A reading of each kind, by the kind's number.
-fn of_kind(kind: usize) -> Reading {
-    match kind {
-        0 => Reading::Undefined,
-        1 => Reading::Boolean(true),
-        2 => Reading::Integer(-9223372036854775808),
-        3 => Reading::Float(9223372036854775807, 28),
-        4 => Reading::String(StringId(65535)),
-        5 => Reading::IntegerList,
-        _ => Reading::StringList,
-    }
+) -> io::Result<()> {
+    let filled = filling::fill(table, *event, name, reading, list);
+    *event = filled.event;
+    showing::answered(rt, name, &filled)
 }
 
 // Readings of every kind for one attribute.
-fn every_kind(rt: &impl Print, table: &[u8], event: Event, name: &[u8]) -> io::Result<Event> {
-    let mut next = event;
-    let mut kind: usize = 0;
-    while kind < 7 {
-        next = given(rt, table, next, name, of_kind(kind), &[9, 3, 9, 0, 3])?;
-        kind += 1;
+fn every_kind(
+    rt: &impl Print,
+    table: AttributeTable,
+    event: &mut Event,
+    name: &[u8],
+) -> io::Result<()> {
+    for reading in READINGS {
+        given(rt, table, event, name, reading, &[9, 3, 9, 0, 3])?;
     }
-    Ok(next)
+    Ok(())
 }
 
-fn kinds(rt: &impl Print, table: &[u8], event: Event) -> io::Result<Event> {
-    let humidity = every_kind(rt, table, event, b"humidity")?;
-    let rain = every_kind(rt, table, humidity, b"rain")?;
-    let wind = every_kind(rt, table, rain, b"wind")?;
-    let site = every_kind(rt, table, wind, b"site")?;
-    let flags = every_kind(rt, table, site, b"flags")?;
-    every_kind(rt, table, flags, b"sky")
+fn kinds(rt: &impl Print, table: AttributeTable, event: &mut Event) -> io::Result<()> {
+    every_kind(rt, table, event, b"humidity")?;
+    every_kind(rt, table, event, b"rain")?;
+    every_kind(rt, table, event, b"wind")?;
+    every_kind(rt, table, event, b"site")?;
+    every_kind(rt, table, event, b"flags")?;
+    every_kind(rt, table, event, b"sky")
 }
 
-fn scales(rt: &impl Print, table: &[u8], event: Event) -> io::Result<Event> {
-    let whole = given(rt, table, event, b"humidity", Reading::Float(85, 0), &[])?;
-    let finest = given(rt, table, whole, b"humidity", Reading::Float(-1, 28), &[])?;
-    let past = given(rt, table, finest, b"humidity", Reading::Float(1, 29), &[])?;
-    let negative = given(rt, table, past, b"humidity", Reading::Float(1, -1), &[])?;
-    given(rt, table, negative, b"rain", Reading::Float(1, 29), &[])
+fn scales(rt: &impl Print, table: AttributeTable, event: &mut Event) -> io::Result<()> {
+    given(rt, table, event, b"humidity", Reading::Float(85, 0), &[])?;
+    given(rt, table, event, b"humidity", Reading::Float(-1, 28), &[])?;
+    given(rt, table, event, b"humidity", Reading::Float(1, 29), &[])?;
+    given(rt, table, event, b"humidity", Reading::Float(1, -1), &[])?;
+    given(rt, table, event, b"rain", Reading::Float(1, 29), &[])
 }
 
-fn words(rt: &impl Print, table: &[u8], event: Event) -> io::Result<Event> {
-    let none = given(rt, table, event, b"site", Reading::String(StringId(0)), &[])?;
-    let past = given(
+fn words(rt: &impl Print, table: AttributeTable, event: &mut Event) -> io::Result<()> {
+    given(rt, table, event, b"site", Reading::String(StringId(0)), &[])?;
+    let past = Reading::String(StringId(65536));
+    given(rt, table, event, b"site", past, &[])?;
+    let negative = Reading::String(StringId(-1));
+    given(rt, table, event, b"site", negative, &[])?;
+    given(rt, table, event, b"sky", Reading::StringList, &[65535, 0])?;
+    given(rt, table, event, b"sky", Reading::StringList, &[65536, 0])?;
+    given(rt, table, event, b"sky", Reading::StringList, &[1, -1])
+}
+
+fn lengths(rt: &impl Print, table: AttributeTable, event: &mut Event) -> io::Result<()> {
+    given(rt, table, event, b"flags", Reading::IntegerList, &[])?;
+    given(
         rt,
         table,
-        none,
-        b"site",
-        Reading::String(StringId(65536)),
-        &[],
-    )?;
-    let negative = given(rt, table, past, b"site", Reading::String(StringId(-1)), &[])?;
-    let least = given(
-        rt,
-        table,
-        negative,
-        b"sky",
-        Reading::StringList,
-        &[65535, 0],
-    )?;
-    let over = given(rt, table, least, b"sky", Reading::StringList, &[65536, 0])?;
-    given(rt, table, over, b"sky", Reading::StringList, &[1, -1])
-}
-
-fn lengths(rt: &impl Print, table: &[u8], event: Event) -> io::Result<Event> {
-    let empty = given(rt, table, event, b"flags", Reading::IntegerList, &[])?;
-    let full = given(
-        rt,
-        table,
-        empty,
+        event,
         b"flags",
         Reading::IntegerList,
         &LONG[..32],
     )?;
-    let past = given(rt, table, full, b"flags", Reading::IntegerList, &LONG)?;
-    let words = given(rt, table, past, b"sky", Reading::StringList, &LONG[1..])?;
-    let repeats = given(rt, table, words, b"sky", Reading::StringList, &[7; 33])?;
-    given(rt, table, repeats, b"wind", Reading::Integer(4), &LONG)
+    given(rt, table, event, b"flags", Reading::IntegerList, &LONG)?;
+    given(rt, table, event, b"sky", Reading::StringList, &LONG[1..])?;
+    given(rt, table, event, b"sky", Reading::StringList, &[7; 33])?;
+    given(rt, table, event, b"wind", Reading::Integer(4), &LONG)
 }
 
-fn names(rt: &impl Print, table: &[u8], event: Event) -> io::Result<Event> {
-    let empty = given(rt, table, event, b"", Reading::Integer(1), &[])?;
-    let long = given(
-        rt,
-        table,
-        empty,
-        b"windwindwindwindwindwindwindwindw",
-        Reading::Integer(1),
-        &[],
-    )?;
-    let part = given(rt, table, long, b"win", Reading::Float(1, 29), &[])?;
-    given(rt, table, part, b"wind ", Reading::Undefined, &[])
+fn names(rt: &impl Print, table: AttributeTable, event: &mut Event) -> io::Result<()> {
+    given(rt, table, event, b"", Reading::Integer(1), &[])?;
+    let long = b"windwindwindwindwindwindwindwindw";
+    given(rt, table, event, long, Reading::Integer(1), &[])?;
+    given(rt, table, event, b"win", Reading::Float(1, 29), &[])?;
+    given(rt, table, event, b"wind ", Reading::Undefined, &[])
 }
 
-pub fn run(
-    rt: &impl Print,
-    table: &[u8; attributes::TABLE_SIZE],
-    event: Event,
-) -> io::Result<Event> {
-    let kinds = kinds(rt, table, event)?;
-    let scales = scales(rt, table, kinds)?;
-    let words = words(rt, table, scales)?;
-    let lengths = lengths(rt, table, words)?;
-    names(rt, table, lengths)
+pub fn run(rt: &impl Print, table: AttributeTable, event: &mut Event) -> io::Result<()> {
+    kinds(rt, table, event)?;
+    scales(rt, table, event)?;
+    words(rt, table, event)?;
+    lengths(rt, table, event)?;
+    names(rt, table, event)
 }

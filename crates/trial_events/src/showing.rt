@@ -1,48 +1,42 @@
 // What an event holds, written.
-use crate::writing;
 use events::{AttributeValue, Event};
-use std::io;
+use filling::Filled;
+use std::{fmt, io};
 
-fn elements(rt: &impl Print, list: &[i64]) -> io::Result<()> {
-    let mut i: usize = 0;
-    while i < list.len() {
-        print!(rt; " {}", list[i])?;
-        i += 1;
+// The values of the six attributes of the trials.
+#[derive(Clone, Copy)]
+pub struct Shown<'a>(pub &'a Event);
+
+fn elements<W: fmt::Write>(f: &mut fmt::Formatter<W>, kind: &str, list: &[i64]) -> fmt::Result {
+    f.write_str(kind)?;
+    for x in list {
+        write!(f, " {x}")?;
     }
     Ok(())
 }
 
-fn value(rt: &impl Print, value: AttributeValue, list: &[i64]) -> io::Result<()> {
-    match value {
-        AttributeValue::Undefined => print!(rt; " undefined"),
-        AttributeValue::Boolean(truth) => writing::truth(rt, truth),
-        AttributeValue::Integer(number) => print!(rt; " integer {number}"),
-        AttributeValue::Float(decimal) => print!(rt; " float {} {}", decimal.number, decimal.scale),
-        AttributeValue::String(word) => print!(rt; " word {}", word.0),
-        AttributeValue::IntegerList => {
-            print!(rt; " integers")?;
-            elements(rt, list)
+impl<'a> fmt::Display for Shown<'a> {
+    fn fmt<W: fmt::Write>(&self, f: &mut fmt::Formatter<W>) -> fmt::Result {
+        for i in 0..6 {
+            match self.0.value(i) {
+                AttributeValue::Undefined => f.write_str(" undefined")?,
+                AttributeValue::Boolean(truth) => f.write_str(if truth { " yes" } else { " no" })?,
+                AttributeValue::Integer(number) => write!(f, " integer {number}")?,
+                AttributeValue::Float(decimal) => {
+                    write!(f, " float {} {}", decimal.number, decimal.scale)?
+                }
+                AttributeValue::String(word) => write!(f, " word {}", word.0)?,
+                AttributeValue::IntegerList => elements(f, " integers", self.0.list(i))?,
+                AttributeValue::StringList => elements(f, " words", self.0.list(i))?,
+            }
+            f.write_str(";")?;
         }
-        AttributeValue::StringList => {
-            print!(rt; " words")?;
-            elements(rt, list)
-        }
+        Ok(())
     }
 }
 
-// The values of the six attributes of the trials.
-pub fn event(rt: &impl Print, event: Event) -> io::Result<()> {
-    let kinds = event.kinds;
-    let numbers = event.numbers;
-    let scales = event.scales;
-    let lengths = event.lengths;
-    let lists = event.lists;
-    let mut i: usize = 0;
-    while i < 6 {
-        let held = events::value_at(&kinds, &numbers, &scales, i);
-        value(rt, held, events::list_at(&lists, &lengths, i))?;
-        print!(rt; ";")?;
-        i += 1;
-    }
-    println!(rt)
+// The name that a reading was handed in for, the answer's number and the event after.
+pub fn answered(rt: &impl Print, name: &[u8], filled: &Filled) -> io::Result<()> {
+    rt.write_all(name)?;
+    println!(rt; " {}:{}", filled.number(), Shown(&filled.event))
 }

@@ -1,5 +1,5 @@
 // Lists of 0, 1, 31 and 32 elements: made to ascend, and read as sets. Empty lists on either side are cases of their own.
-use crate::writing;
+use crate::writing::yes_or_no;
 use std::io;
 
 const GIVEN: [i64; 32] = [
@@ -82,11 +82,8 @@ fn settled(rt: &impl Print, given: &[i64]) -> io::Result<()> {
     if given.len() <= lists::LIST_LIMIT {
         let row = lists::settle(given);
         print!(rt; "kept {} of:", row.length)?;
-        let places = row.places;
-        let mut i = 0;
-        while i < 32 {
-            print!(rt; " {}", places[i])?;
-            i += 1;
+        for place in row.places {
+            print!(rt; " {place}")?;
         }
         println!(rt)?;
     }
@@ -96,21 +93,17 @@ fn settled(rt: &impl Print, given: &[i64]) -> io::Result<()> {
 // Two lists as sets: whether they share an element, and whether the right one has all of the left.
 fn sets(rt: &impl Print, left: &[i64], right: &[i64]) -> io::Result<()> {
     print!(rt; "{} and {}", left.len(), right.len())?;
-    if lists::ascending(left) {
-        if lists::ascending(right) {
-            writing::truth(rt, lists::one_of(left, right))?;
-            writing::truth(rt, lists::all_of(left, right))?;
-            return println!(rt);
-        }
+    if lists::ascending(left) && lists::ascending(right) {
+        let shared = yes_or_no(lists::one_of(left, right));
+        let all = yes_or_no(lists::all_of(left, right));
+        return println!(rt; " {shared} {all}");
     }
     println!(rt; " do not ascend")
 }
 
 fn found(rt: &impl Print, list: &[i64], x: i64) -> io::Result<()> {
     if lists::ascending(list) {
-        print!(rt; "{x}")?;
-        writing::truth(rt, lists::member(list, x))?;
-        println!(rt)?;
+        println!(rt; "{x} {}", yes_or_no(lists::member(list, x)))?;
     }
     Ok(())
 }

@@ -1,11 +1,11 @@
 // Every kind of predicate with every tag on every kind of attribute: whether the rule sheet has such a predicate (else 1), whether it suits
 // (else 6), and what it says of an undefined value and of four others.
-ghost use Rattle.std.specs.Prelude.{◌≤◌};
+ghost use Rattle.std.specs.Prelude.{◌≤◌, ◌<◌};
 ghost use Rattle.decimals.specs.Decimals.{scale_limit};
 ghost use Rattle.predicates.specs.Meaning.{amount_in};
 
+use crate::writing::letter;
 use decimals::Decimal;
-use evaluation::Truth;
 use events::{AttributeValue, StringId};
 use std::io;
 
@@ -28,60 +28,55 @@ const DECIMALS: [i64; 5] = [0, 8450, 8500, 8550, 8600];
 
 const WORDS: [i64; 5] = [0, 5, 6, 7, 8];
 
+// The lists that the predicates are tried with, each beside the value of its number.
+const LISTS: [&[i64]; 5] = [&[], &[], &[2, 5], &[5, 9], &[3]];
+
 // Which tags the rule sheet allows for a kind.
 fn allows(kind: u8, tag: u8) -> bool {
     match kind / 10 {
-        2 | 5 => tag == 4 || tag == 5,
-        3 => tag == 1 || tag == 2,
-        4 => tag == 1 || tag == 2 || tag == 3,
+        2 | 5 => matches!(tag, 4 | 5),
+        3 => matches!(tag, 1 | 2),
+        4 => matches!(tag, 1..=3),
         _ => tag == 0,
     }
 }
 
 // A value of an attribute: number 0 is undefined, the others stand around the literal's.
 fn value(attribute: u8, i: usize) -> AttributeValue
+    requires { i < 5 }
     ensures { (amount_in result).scale ≤ scale_limit }
 {
-    if i == 0 {
-        return AttributeValue::Undefined;
-    }
-    match attribute {
-        1 => AttributeValue::Boolean(i % 2 == 0),
-        2 => AttributeValue::Integer(INTEGERS[i % 5]),
-        3 => AttributeValue::Float(Decimal {
-            number: DECIMALS[i % 5],
+    match (i, attribute) {
+        (0, _) => AttributeValue::Undefined,
+        (_, 1) => AttributeValue::Boolean(i % 2 == 0),
+        (_, 2) => AttributeValue::Integer(INTEGERS[i]),
+        (_, 3) => AttributeValue::Float(Decimal {
+            number: DECIMALS[i],
             scale: 3,
         }),
-        4 => AttributeValue::String(StringId(WORDS[i % 5])),
-        5 => AttributeValue::IntegerList,
+        (_, 4) => AttributeValue::String(StringId(WORDS[i])),
+        (_, 5) => AttributeValue::IntegerList,
         _ => AttributeValue::StringList,
-    }
-}
-
-fn letter(rt: &impl Print, truth: Truth) -> io::Result<()> {
-    match truth {
-        Truth::False => print!(rt; "F"),
-        Truth::Undefined => print!(rt; "U"),
-        Truth::True => print!(rt; "T"),
     }
 }
 
 // What a predicate says of a value, or of a list.
 fn says(rt: &impl Print, kind: u8, tag: u8, value: AttributeValue, list: &[i64]) -> io::Result<()>
-    requires { (amount_in value).scale ≤ scale_limit }
+    requires value_scale { (amount_in value).scale ≤ scale_limit }
+    requires tag { tag < 6 }
 {
     if lists::ascending(list) {
         let kind = predicates::kind_of(kind);
-        let literal = predicates::literal_of(tag, NUMBERS[tag as usize % 6], SCALE);
-        letter(
-            rt,
-            predicates::evaluate(kind, literal, &ELEMENTS, value, list),
-        )?;
+        let literal = predicates::literal_of(tag, NUMBERS[tag as usize], SCALE);
+        let truth = predicates::evaluate(kind, literal, &ELEMENTS, value, list);
+        print!(rt; "{}", letter(truth))?;
     }
     Ok(())
 }
 
-fn cell(rt: &impl Print, kind: u8, tag: u8, attribute: u8) -> io::Result<()> {
+fn cell(rt: &impl Print, kind: u8, tag: u8, attribute: u8) -> io::Result<()>
+    requires { tag < 6 }
+{
     if !allows(kind, tag) {
         return print!(rt; " 1");
     }
@@ -89,28 +84,27 @@ fn cell(rt: &impl Print, kind: u8, tag: u8, attribute: u8) -> io::Result<()> {
         return print!(rt; " 6");
     }
     print!(rt; " ")?;
-    says(rt, kind, tag, value(attribute, 0), &[])?;
-    says(rt, kind, tag, value(attribute, 1), &[])?;
-    says(rt, kind, tag, value(attribute, 2), &[2, 5])?;
-    says(rt, kind, tag, value(attribute, 3), &[5, 9])?;
-    says(rt, kind, tag, value(attribute, 4), &[3])
+    for (i, list) in LISTS.iter().enumerate() {
+        says(rt, kind, tag, value(attribute, i), list)?;
+    }
+    Ok(())
 }
 
-fn row(rt: &impl Print, kind: u8, tag: u8) -> io::Result<()> {
+fn row(rt: &impl Print, kind: u8, tag: u8) -> io::Result<()>
+    requires { tag < 6 }
+{
     print!(rt; "{kind} {tag}")?;
-    let mut attribute = 1;
-    while attribute <= 6 {
+    for attribute in 1..=6 {
         cell(rt, kind, tag, attribute)?;
-        attribute += 1;
     }
     println!(rt)
 }
 
 pub fn run(rt: &impl Print) -> io::Result<()> {
-    let mut i: usize = 0;
-    while i < 108 {
-        row(rt, KINDS[i / 6], (i % 6) as u8)?;
-        i += 1;
+    for kind in KINDS {
+        for tag in 0..6 {
+            row(rt, kind, tag)?;
+        }
     }
     Ok(())
 }

@@ -1,10 +1,23 @@
-// Writing words to standard output.
-use std::io;
+// How the tables write what a call answers.
+use evaluation::Truth;
+use std::cmp::Ordering;
 
-pub fn truth(rt: &impl Print, b: bool) -> io::Result<()> {
-    if b {
-        print!(rt; " yes")
-    } else {
-        print!(rt; " no")
+pub fn yes_or_no(answer: bool) -> &'static str {
+    if answer { "yes" } else { "no" }
+}
+
+pub fn sign(order: Ordering) -> char {
+    match order {
+        Ordering::Less => '<',
+        Ordering::Equal => '=',
+        Ordering::Greater => '>',
+    }
+}
+
+pub fn letter(truth: Truth) -> char {
+    match truth {
+        Truth::False => 'F',
+        Truth::Undefined => 'U',
+        Truth::True => 'T',
     }
 }

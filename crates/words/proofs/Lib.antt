@@ -1,4 +1,5 @@
 pub mod WordLaws
+pub mod BytesLaws
 pub mod FrameLaws
 pub mod SignLaws
 pub mod RunLaws

@@ -1,109 +1,130 @@
 // Numbers in bytes, least significant byte first: read and written at a place of a lent slice. Assumes nothing.
-// A number is two of half the width: of the halves the compiler makes one load or one store.
 #![tactic(auto)]
 
-ghost use Rattle.std.specs.Prelude.{◌≡◌, ◌+◌, ◌≤◌, length};
-ghost use Rattle.words.specs.Word.{word, put, signed_word, put_signed};
+ghost use Rattle.std.specs.Prelude.{◌≡◌, refl, ℕ, ◌+◌, ◌^◌, ◌<◌, ◌≤◌, length, take, drop};
 ghost use Rattle.std.specs.Int.{w64};
 ghost use Rattle.std.proofs.Common.{to_z, of_z};
+ghost use Rattle.std.proofs.lemmas.Int.{of_z-to_z};
+ghost use Rattle.words.specs.Word.{word, put};
 
-pub fn read_u8(b: &[u8], at: usize) -> u8
-    requires { at + 1 ≤ length b.now }
-    ensures { result ≡ word 1 b.now at }
-{
-    b[at]
+// A number of `size` bytes. A read or a write of one compiles to one load or one store.
+pub trait Word: Copy {
+    ghost size: { ℕ };
+
+    // The number as one without a sign, and back.
+    ghost bits: { Self → ℕ };
+
+    ghost of_bits: { ℕ → Self };
+
+    fn read(bytes: &[u8], at: usize) -> Self
+        requires { at + size ≤ length bytes.now }
+        ensures { result ≡ of_bits (word size bytes.now at) };
+
+    fn write(self, bytes: &mut [u8], at: usize)
+        requires { at + size ≤ length bytes.old }
+        ensures { bytes.new ≡ put size bytes.old at (bits self) };
+
+    // What is read has the bits that stand there.
+    ghost back: { (u : ℕ) → u < 256 ^ size → bits (of_bits u) ≡ u };
 }
 
-pub fn read_u16(b: &[u8], at: usize) -> u16
-    requires { at + 2 ≤ length b.now }
-    ensures { result ≡ word 2 b.now at }
+// The N bytes from at.
+fn part<const N: usize>(bytes: &[u8], at: usize) -> [u8; N]
+    requires { at + N ≤ length bytes.now }
+    ensures { result ≡ take N (drop at bytes.now) }
 {
-    let low = read_u8(b, at) as u16;
-    let high = read_u8(b, at + 1) as u16;
-    low + 256 * high
+    *bytes[at..].first_chunk().unwrap()
 }
 
-pub fn read_u32(b: &[u8], at: usize) -> u32
-    requires { at + 4 ≤ length b.now }
-    ensures { result ≡ word 4 b.now at }
-{
-    let low = read_u16(b, at) as u32;
-    let high = read_u16(b, at + 2) as u32;
-    low + 65536 * high
-}
+impl Word for u8 {
+    ghost size = { 1 };
 
-pub fn read_u64(b: &[u8], at: usize) -> u64
-    requires { at + 8 ≤ length b.now }
-    ensures { result ≡ word 8 b.now at }
-{
-    let low = read_u32(b, at) as u64;
-    let high = read_u32(b, at + 4) as u64;
-    low + 4294967296 * high
-}
+    ghost bits = { λ x. x };
 
-pub fn write_u8(b: &mut [u8], at: usize, x: u8)
-    requires { at + 1 ≤ length b.old }
-    ensures { b.new ≡ put 1 b.old at x }
-{
-    b[at] = x;
-}
+    ghost of_bits = { λ x. x };
 
-pub fn write_u16(b: &mut [u8], at: usize, x: u16)
-    requires { at + 2 ≤ length b.old }
-    ensures { b.new ≡ put 2 b.old at x }
-{
-    write_u8(b, at, (x % 256) as u8);
-    write_u8(b, at + 1, (x / 256) as u8);
-}
-
-pub fn write_u32(b: &mut [u8], at: usize, x: u32)
-    requires { at + 4 ≤ length b.old }
-    ensures { b.new ≡ put 4 b.old at x }
-{
-    write_u16(b, at, (x % 65536) as u16);
-    write_u16(b, at + 2, (x / 65536) as u16);
-}
-
-pub fn write_u64(b: &mut [u8], at: usize, x: u64)
-    requires { at + 8 ≤ length b.old }
-    ensures { b.new ≡ put 8 b.old at x }
-{
-    write_u32(b, at, (x % 4294967296) as u32);
-    write_u32(b, at + 4, (x / 4294967296) as u32);
-}
-
-// The signed number whose two's complement is u.
-pub fn signed(u: u64) -> i64
-    ensures { result ≡ to_z w64 u }
-{
-    if u < 9223372036854775808 {
-        u as i64
-    } else {
-        -1 - ((18446744073709551615 - u) as i64)
+    #[tactic(auto, unfolding(crate::specs::Word::word))]
+    fn read(bytes: &[u8], at: usize) -> u8 {
+        bytes[at]
     }
-}
 
-// The two's complement of x.
-pub fn unsigned(x: i64) -> u64
-    ensures { result ≡ of_z w64 x }
-{
-    if x < 0 {
-        18446744073709551615 - ((-1 - x) as u64)
-    } else {
-        x as u64
+    #[tactic(auto, unfolding(crate::specs::Word::put))]
+    fn write(self, bytes: &mut [u8], at: usize) {
+        bytes[at] = self;
     }
+
+    ghost back = { λ u f. refl };
 }
 
-pub fn read_i64(b: &[u8], at: usize) -> i64
-    requires { at + 8 ≤ length b.now }
-    ensures { result ≡ signed_word b.now at }
-{
-    signed(read_u64(b, at))
+impl Word for u16 {
+    ghost size = { 2 };
+
+    ghost bits = { λ x. x };
+
+    ghost of_bits = { λ x. x };
+
+    fn read(bytes: &[u8], at: usize) -> u16 {
+        u16::from_le_bytes(part(bytes, at))
+    }
+
+    fn write(self, bytes: &mut [u8], at: usize) {
+        bytes[at..at + 2].copy_from_slice(&self.to_le_bytes())
+    }
+
+    ghost back = { λ u f. refl };
 }
 
-pub fn write_i64(b: &mut [u8], at: usize, x: i64)
-    requires { at + 8 ≤ length b.old }
-    ensures { b.new ≡ put_signed b.old at x }
-{
-    write_u64(b, at, unsigned(x))
+impl Word for u32 {
+    ghost size = { 4 };
+
+    ghost bits = { λ x. x };
+
+    ghost of_bits = { λ x. x };
+
+    fn read(bytes: &[u8], at: usize) -> u32 {
+        u32::from_le_bytes(part(bytes, at))
+    }
+
+    fn write(self, bytes: &mut [u8], at: usize) {
+        bytes[at..at + 4].copy_from_slice(&self.to_le_bytes())
+    }
+
+    ghost back = { λ u f. refl };
+}
+
+impl Word for u64 {
+    ghost size = { 8 };
+
+    ghost bits = { λ x. x };
+
+    ghost of_bits = { λ x. x };
+
+    fn read(bytes: &[u8], at: usize) -> u64 {
+        u64::from_le_bytes(part(bytes, at))
+    }
+
+    fn write(self, bytes: &mut [u8], at: usize) {
+        bytes[at..at + 8].copy_from_slice(&self.to_le_bytes())
+    }
+
+    ghost back = { λ u f. refl };
+}
+
+// In two's complement.
+impl Word for i64 {
+    ghost size = { 8 };
+
+    ghost bits = { of_z w64 };
+
+    ghost of_bits = { to_z w64 };
+
+    fn read(bytes: &[u8], at: usize) -> i64 {
+        u64::read(bytes, at).cast_signed()
+    }
+
+    fn write(self, bytes: &mut [u8], at: usize) {
+        self.cast_unsigned().write(bytes, at)
+    }
+
+    ghost back = { λ u f. of_z-to_z w64 u f };
 }

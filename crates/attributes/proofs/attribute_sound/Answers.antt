@@ -1,32 +1,33 @@
 -- `attributes::attribute_sound` meets its contract: each way out is a case of the test. Assumes nothing.
-use mathlib.Core.Path.{sym, ap, ◌∙◌}
-use Rattle.lists.specs.AndLaws.{and_first, and_second, and_both}
-use Rattle.attributes.specs.Table.{nowhere}
-use Rattle.attributes.specs.Sound.{sound_attribute}
+use Rattle.std.proofs.Common.{sym, ◌∙◌, true≢false}
+use Rattle.attributes.specs.Kinds.{kind_count}
+use Rattle.attributes.specs.Table.{name_limit}
+use Rattle.attributes.proofs.RangeLaws.{contained}
+use Rattle.attributes.proofs.SoundTold.{kind_broken, length_broken, new_told}
 use Rattle.attributes.proofs.attribute_sound.Goals as goal
+use Rattle.attributes.proofs.attribute_sound.Goals.{then-contains, else-contains}
 
-pub returns-then-not-between : goal.returns-then-not-between
-unfolding sound_attribute
-returns-then-not-between c =
-    let kind = rw (c.wide.ensures ∙ c.by_id-kind.ensures) at c.between.ensures in
-    sym (and_first _ _ (and_first _ _ (sym kind ∙ c.if-not-between.true)))
+pub returns-then-contains-2 : goal.returns-then-contains-2
+returns-then-contains-2 c = let a = c.args in
+    let n = c.new.ensures in
+    let kinded = contained 1 c.from-kind.result kind_count _ _ _ _ n.start n.end n.exhausted c.contains.ensures.value in
+    elim c.if-contains.branch [
+      | then-contains w ↦ let m = w.new-then-contains.ensures in
+          let long = contained 1 w.length_of.result name_limit _ _ _ _ m.start m.end m.exhausted w.contains-then-contains.ensures.value in
+          new_told a.table.now a.i _ _ (rw (c.from-kind.ensures ∙ c.by_id.ensures) at kinded) w.if-contains.true
+          (rw w.length_of.ensures at long) (sym w.value-is ∙ c.if-contains-2.true) _ c.name_of.ensures
+          _ _ c.first_named.ensures c.is_none.ensures
+      | else-contains w ↦ absurd (true≢false (sym c.if-contains-2.true ∙ w.value-is ∙ w.if-contains.false))
+    ]
 
-pub returns-then-not-between-2 : goal.returns-then-not-between-2
-unfolding sound_attribute
-returns-then-not-between-2 c =
-    let long = rw c.length_of.ensures at c.between-2.ensures in
-    sym (and_first _ _ (and_second _ _ (sym long ∙ c.if-not-between-2.true)))
-
-pub returns-in-At : goal.returns-in-At
-unfolding sound_attribute
-returns-in-At c =
-    let first = rw c.name_of.ensures at c.in-At.ensures in
-    sym (and_second _ _ (ap nowhere (sym first)))
-
-pub returns-in-Nothing : goal.returns-in-Nothing
-unfolding sound_attribute
-returns-in-Nothing c =
-    let kind = rw (c.wide.ensures ∙ c.by_id-kind.ensures) at c.between.ensures in
-    let long = rw c.length_of.ensures at c.between-2.ensures in
-    let first = rw c.name_of.ensures at c.in-Nothing.ensures in
-    sym (and_both _ _ (and_both _ _ (sym kind ∙ c.if-not-between.false) (sym long ∙ c.if-not-between-2.false)) (ap nowhere (sym first)))
+pub returns-else-contains-2 : goal.returns-else-contains-2
+returns-else-contains-2 c = let a = c.args in
+    let n = c.new.ensures in
+    let kinded = contained 1 c.from-kind.result kind_count _ _ _ _ n.start n.end n.exhausted c.contains.ensures.value in
+    elim c.if-contains.branch [
+      | then-contains w ↦ let m = w.new-then-contains.ensures in
+          let long = contained 1 w.length_of.result name_limit _ _ _ _ m.start m.end m.exhausted w.contains-then-contains.ensures.value in
+          c.if-contains-2.false ∙ length_broken a.table.now a.i _ (rw w.length_of.ensures at long) (sym w.value-is ∙ c.if-contains-2.false)
+      | else-contains w ↦
+          c.if-contains-2.false ∙ kind_broken a.table.now a.i _ (rw (c.from-kind.ensures ∙ c.by_id.ensures) at kinded) w.if-contains.false
+    ]

@@ -1,53 +1,32 @@
--- `attributes::define` meets its contract: each way out is a case of the answer. Where the name's length was tested it is known to have 1
--- to 32 bytes, and `places` says that the definition's array has 32 places. Assumes nothing.
-use mathlib.Core.Path.{sym, ap, ◌∙◌}
-use Prim.Native.Nat.{ℕ}
-use lib.ListN.{length}
-use mathlib.Core.Path.{◌≡◌}
-use Prim.Native.Nat.{◌<◌}
-use native.Mathlib.Omega.{arith}
-use borrow.Author.Tests.{lt-ltb}
-use Rattle.attributes.specs.Table.{attribute_limit, count_of}
-use Rattle.lists.specs.AndLaws.{and_first, and_both}
+-- `attributes::define` meets its contract: each way out is a case of the outcome. Assumes nothing.
+use Rattle.std.proofs.Common.{ℕ, ap, sym, ◌∙◌, arith, rules}
+use Rattle.attributes.specs.Table.{name_limit}
 use Rattle.attributes.specs.Definitions.{name_of, added, outcome}
-use Rattle.attributes.specs.DefinitionsLaws.{outcome_limit, outcome_twice, outcome_done}
-use Rattle.attributes.proofs.NameLaws.{name_within, name_taken}
+use Rattle.attributes.proofs.RangeLaws.{contained}
+use Rattle.attributes.proofs.NameLaws.{long_refused, twice_refused, new_taken}
 use Rattle.attributes.proofs.define.Goals as goal
 
-pub returns-then-not-between : goal.returns-then-not-between
-returns-then-not-between c =
-    let a = c.args in
-    let long = sym c.between.ensures ∙ c.if-not-between.true in
-    sym (outcome_limit a.table.now a.definition (and_first _ _ long))
+pub returns-then-not-contains : goal.returns-then-not-contains
+returns-then-not-contains c = let a = c.args in
+    let n = c.new.ensures in
+    let told = contained 1 a.definition.length name_limit _ _ _ _ n.start n.end n.exhausted c.contains.ensures.value in
+    long_refused a.table.now a.definition _ told c.if-not-contains.true
 
-pub slice_bounds-whole-end : goal.slice_bounds-whole-end
-slice_bounds-whole-end c =
-    let d = c.args.definition in
-    let places : length d.name ≡ 32 = c.well_formed.1.0.1.1.0.1.0.1 in
-    let fits = sym c.between.ensures ∙ c.if-not-between.false in
-    name_within d.name d.length places fits
+pub returns-then-is_some : goal.returns-then-is_some
+returns-then-is_some c = let a = c.args in
+    let n = c.new.ensures in
+    let told = contained 1 a.definition.length name_limit _ _ _ _ n.start n.end n.exhausted c.contains.ensures.value in
+    twice_refused a.table.now a.definition _ told c.if-not-contains.false c.len.result c.len.ensures (omega arith)
+    c.by_name.result c.by_name.ensures (sym c.is_some.ensures ∙ c.if-is_some.true)
 
-pub slice_bounds-name-end : goal.slice_bounds-name-end
-slice_bounds-name-end c =
-    let d = c.args.definition in
-    let places : length d.name ≡ 32 = c.well_formed.1.0.1.1.0.1.0.1 in
-    let fits = sym c.between.ensures ∙ c.if-not-between.false in
-    name_taken d.name d.length places fits
+pub write_record-requires : goal.write_record-requires
+write_record-requires c = (c.requires, omega (arith, c.len.ensures), search rules)
 
-pub returns-in-At : goal.returns-in-At
-returns-in-At c =
-    let a = c.args in
-    let fits = sym c.between.ensures ∙ c.if-not-between.false in
-    let room : count_of a.table.now < attribute_limit = omega (arith, c.len.ensures) in
-    let there = sym c.in-At.ensures in
-    sym (outcome_twice a.table.now a.definition _ (and_both _ _ fits (lt-ltb _ _ room)) there)
-
-pub returns-in-Nothing : goal.returns-in-Nothing
-returns-in-Nothing c =
-    let a = c.args in
-    let fits = sym c.between.ensures ∙ c.if-not-between.false in
-    let room : count_of a.table.now < attribute_limit = omega (arith, c.len.ensures) in
-    let new = sym c.in-Nothing.ensures in
-    let kind = ap (λ (k : ℕ). added a.table.now k (name_of a.definition)) c.kind_number.ensures in
-    ap (outcome 0) (c.write_record.ensures ∙ kind)
-    ∙ sym (outcome_done a.table.now a.definition (and_both _ _ fits (lt-ltb _ _ room)) new)
+pub returns : goal.returns
+returns c = let a = c.args in
+    let n = c.new.ensures in
+    let told = contained 1 a.definition.length name_limit _ _ _ _ n.start n.end n.exhausted c.contains.ensures.value in
+    let done = new_taken a.table.now a.definition _ told c.if-not-contains.false c.len.result c.len.ensures (omega arith)
+    c.by_name.result c.by_name.ensures (sym c.is_some.ensures ∙ c.if-is_some.false) in
+    let kind = ap (λ (k : ℕ). added a.table.now k (name_of a.definition)) c.from.ensures in
+    ap (outcome 0) (c.write_record.ensures ∙ kind) ∙ done

@@ -1,14 +1,7 @@
 -- `changes::write_children` meets its contract. Assumes nothing.
 use mathlib.Core.Path.{◌≡◌}
-use Prim.Native.Nat.{◌-◌, ◌≤◌}
-use lib.ListN.{length}
 use Rattle.changes.specs.Changes.{put_children}
 use Rattle.changes.proofs.write_children.Given as goal
 
 abbrev pub invariant-loop-k : goal.invariant-loop-k
-invariant-loop-k l =
-    (l.bytes ≡ put_children l.limits l.initial.bytes l.at l.children l.k) × (length l.bytes ≡ length l.initial.bytes)
-    × (l.k ≤ length l.children)
-
-abbrev pub decreases-loop-k : goal.decreases-loop-k
-decreases-loop-k l = length l.children - l.k
+invariant-loop-k l = l.bytes ≡ put_children l.limits l.initial.bytes l.at l.children l.k

@@ -17,7 +17,7 @@ loop-number-smaller c = let h = overflow_sub-scale c in omega arith
 pub loop-number-preserved : goal.loop-number-preserved
 loop-number-preserved c =
     let u = sym c.is_normal.ensures ∙ c.loop-number-test.true in
-    rw (quot_back c.loop-number.rest.number c.struct_told-1.given.0.1)
+    rw (quot_back c.loop-number.rest.number (omega arith))
     (c.loop-number.invariant ∙ (normal_step c.loop-number.rest u).1)
 
 pub returns : goal.returns

@@ -2,7 +2,7 @@
 -- Assumes nothing.
 use mathlib.Core.Path.{sym, ap₂, ◌∙◌}
 use Prim.Native.Nat.{◌^◌}
-use Rattle.decimals.specs.Order.{then_of}
+use Rattle.std.specs.Ordering.{ordering_then}
 use Rattle.decimals.proofs.ScaleLaws.{ten_pos}
 use Rattle.decimals.proofs.DivisionLaws.{divided, far}
 use Rattle.decimals.proofs.SignLaws.{back, quot_back, rem_back, power_fits, power_back, power_divides}
@@ -13,7 +13,7 @@ returns-then-k-gt-GREATEST_POWER c =
     let a = c.args in
     let f = c.ranges in
     c.then.ensures
-    ∙ ap₂ then_of c.integers.ensures c.integers-then-k-gt-GREATEST_POWER.ensures
+    ∙ ap₂ ordering_then c.cmp.ensures c.cmp-then-k-gt-GREATEST_POWER.ensures
     ∙ rw (back a.a f.a.sfits, back a.b f.b.sfits)
     (sym (far a.a a.b a.k f.b c.if-k-gt-GREATEST_POWER.true))
 
@@ -34,7 +34,7 @@ returns c =
     let f = c.ranges in
     let p = c.ten_to-power.result in
     c.then-2.ensures
-    ∙ ap₂ then_of c.integers-2.ensures c.integers-3.ensures
+    ∙ ap₂ ordering_then c.cmp-2.ensures c.cmp-3.ensures
     ∙ rw (power_back p a.k c.ten_to-power.ensures c.if-k-gt-GREATEST_POWER.false, back a.a f.a.sfits)
     (rw (quot_back a.b f.b.sfits p, rem_back a.b f.b.sfits p, c.ten_to-power.ensures)
     (sym (divided (10 ^ a.k) (ten_pos a.k) a.a a.b)))

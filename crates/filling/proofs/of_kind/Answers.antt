@@ -1,13 +1,16 @@
 -- `filling::of_kind` meets its contract. Assumes nothing.
-use mathlib.Core.Path.{sym, ◌∙◌}
-use borrow.Author.Tests.{eq-eqb, ne_eqb}
+use Rattle.std.proofs.Common.{sym, arith}
+use borrow.Author.Tests.{ne_eqb}
+use Rattle.attributes.specs.Kinds.{kind_number}
+use Rattle.attributes.specs.KindsLaws.{kind_range}
 use Rattle.filling.specs.Readings.{of_kind}
 use Rattle.filling.proofs.of_kind.Goals as goal
 
-pub returns-then-number-eq-UNDEFINED : goal.returns-then-number-eq-UNDEFINED
+pub returns-in-None : goal.returns-in-None
 unfolding of_kind
-returns-then-number-eq-UNDEFINED c = rw (eq-eqb _ _ (sym c.reading_number-number.ensures ∙ c.if-number-eq-UNDEFINED.true))
+returns-in-None c = rw (sym c.in-None.ensures)
 
-pub returns : goal.returns
+pub returns-in-Some : goal.returns-in-Some
 unfolding of_kind
-returns c = rw (← c.reading_number-number.ensures, ne_eqb _ _ c.if-number-eq-UNDEFINED.false)
+returns-in-Some c =
+    rw (sym c.in-Some.ensures, c.from.ensures, ne_eqb (kind_number c.in-Some.kind) 0 (λ e. omega (arith, (kind_range c.in-Some.kind).0)))

@@ -1,7 +1,7 @@
--- `finding::compare_heads` meets its contract: the equations of its three calls. Assumes nothing.
-use Rattle.finding.specs.KeyOrder.{key_order}
+-- `finding::compare_heads` meets its contract. Assumes nothing.
+use mathlib.Core.Path.{◌∙◌}
+use Rattle.finding.proofs.HeadLaws.{heads_order}
 use Rattle.finding.proofs.compare_heads.Goals as goal
 
 pub returns : goal.returns
-unfolding key_order
-returns c = cc
+returns c = c.cmp.ensures ∙ heads_order c.args.a c.args.b

@@ -1,40 +1,19 @@
--- `finding::compare_predicate` meets its contract: the heads decide, or leave it to the items. Assumes nothing.
-use Rattle.finding.proofs.HeadLaws.{candidate_key_lem, run_inside, against, counted_run}
-use Rattle.finding.proofs.HeadLaws.{settled_less, settled_equal, settled_greater}
+-- `finding::compare_predicate` meets its contract: the items are the two's complements of the list. Assumes nothing.
+use mathlib.Core.Path.{sym, ap, ◌∙◌}
 use lib.ListN.{length, length-map}
-use mathlib.Core.List.{map}
-use mathlib.Core.Path.{refl, sym}
 use mir.Syntax.{w64}
 use mir.Val.{of_z}
+use Rattle.std.proofs.Common.{rules}
+use Rattle.std.proofs.lemmas.Iterator.{YieldsList-from_slice, YieldsList-from_map}
+use Rattle.finding.specs.Keys.{words_of, part_order}
+use Rattle.finding.proofs.HeadLaws.{candidate_key_lem}
 use Rattle.finding.proofs.compare_predicate.Goals as goal
 
-pub compare_elements-requires : goal.compare_elements-requires
-compare_elements-requires c =
+pub returns : goal.returns
+returns c =
     let a = c.args in
-    let heads = against {k = c.candidate_head-b.result} c.get_head-a.ensures c.in-Equal.ensures in
-    run_inside (counted_run heads refl a.content (length a.elements.now) c.candidate_head-b.ensures) c.requires
-
-pub returns-in-Less : goal.returns-in-Less
-returns-in-Less c =
-    let a = c.args in
-    let heads = against {k = c.candidate_head-b.result} c.get_head-a.ensures c.in-Less.ensures in
-    settled_less heads _
-    (candidate_key_lem a.content (map (of_z w64) a.elements.now) (length a.elements.now) c.candidate_head-b.ensures
-    (sym (length-map a.elements.now (of_z w64)))) refl
-
-pub returns-in-Equal : goal.returns-in-Equal
-returns-in-Equal c =
-    let a = c.args in
-    let heads = against {k = c.candidate_head-b.result} c.get_head-a.ensures c.in-Equal.ensures in
-    let run = counted_run heads refl a.content (length a.elements.now) c.candidate_head-b.ensures in
-    settled_equal heads _
-    (candidate_key_lem a.content (map (of_z w64) a.elements.now) (length a.elements.now) c.candidate_head-b.ensures
-    (sym (length-map a.elements.now (of_z w64)))) refl run c.compare_elements.ensures
-
-pub returns-in-Greater : goal.returns-in-Greater
-returns-in-Greater c =
-    let a = c.args in
-    let heads = against {k = c.candidate_head-b.result} c.get_head-a.ensures c.in-Greater.ensures in
-    settled_greater heads _
-    (candidate_key_lem a.content (map (of_z w64) a.elements.now) (length a.elements.now) c.candidate_head-b.ensures
-    (sym (length-map a.elements.now (of_z w64)))) refl
+    c.compare_part.ensures _
+    (YieldsList-from_map _ (of_z w64) (YieldsList-from_slice a.elements.now cc) c.map-items.ensures.closure (λ x r q k. search rules)).runs
+    ∙ ap (part_order a.limits a.bytes.now a.p)
+    (sym (candidate_key_lem a.content (words_of a.elements.now) (length a.elements.now) c.candidate_head-head.ensures
+    (sym (length-map a.elements.now (of_z w64)))))

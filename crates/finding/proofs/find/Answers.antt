@@ -1,37 +1,16 @@
--- `finding::find` meets its contract. The loop's invariant: the entries before `low` hold less than the candidate, those from
--- `high` on hold more. Assumes nothing.
-use mathlib.Core.Path.{refl, sym, subst}
-use Prim.Native.Nat.{ℕ, ◌+◌, ◌-◌, ◌/◌}
-use native.Mathlib.Omega.{arith}
-use Rattle.finding.specs.declared.Found.TheVariants.{At}
-use Rattle.finding.specs.Keys.{candidate_key}
-use Rattle.finding.specs.Finding.{FoundRight}
-use Rattle.finding.specs.FindingLaws.{between_end, middle_less, middle_equal, middle_greater}
+-- `finding::find` meets its contract: what the search says of places, of parts. Assumes nothing.
+use mathlib.Core.Path.{◌≡◌}
+use Rattle.std.proofs.Common.{rules, Err}
+use Rattle.finding.proofs.SearchLaws.{met_right, parted_right}
 use Rattle.finding.proofs.find.Goals as goal
 
-pub loop-low-preserved-in-Less : goal.loop-low-preserved-in-Less
-loop-low-preserved-in-Less c =
-    let at = c.loop-low in
-    let middle : ℕ = at.low + (at.high - at.low) / 2 in
-    let order = rw c.get_entry-p.ensures at c.in-Less.ensures in
-    middle_less c.requires.ascends _ at.invariant middle (omega arith) (omega arith) order refl
-
-pub returns-in-Equal : goal.returns-in-Equal
-returns-in-Equal c =
-    let a = c.args in
-    let at = c.loop-low in
-    let middle : ℕ = at.low + (at.high - at.low) / 2 in
-    let order = rw c.get_entry-p.ensures at c.in-Equal.ensures in
-    subst (λ (x : ℕ). FoundRight a.limits a.bytes.now (candidate_key a.join a.content a.list.now a.children.now) (At x))
-    (sym c.get_entry-p.ensures)
-    (middle_equal c.requires.ascends _ at.invariant middle (omega arith) (omega arith) order refl)
-
-pub loop-low-preserved : goal.loop-low-preserved
-loop-low-preserved c =
-    let at = c.loop-low in
-    let middle : ℕ = at.low + (at.high - at.low) / 2 in
-    let order = rw c.get_entry-p.ensures at c.in-Greater.ensures in
-    middle_greater c.requires.ascends _ at.invariant middle (omega arith) (omega arith) order refl
+pub returns-in_err-place : goal.returns-in_err-place
+returns-in_err-place g c key compares =
+    let e : c.from_residual.result ≡ Err c.in_err-place.field-0.0 = search rules in
+    rw e
+    (parted_right c.requires.ordered.ascends key (λ k o h. search (rules, compares)) c.get_count-count.ensures _ c.in_err-place.ensures)
 
 pub returns : goal.returns
-returns c = between_end c.loop-low.invariant c.loop-low-test.false
+returns g c key compares =
+    rw c.get_entry.ensures
+    (met_right c.requires.ordered.ascends key (λ k o h. search (rules, compares)) c.get_count-count.ensures _ c.in_ok-place.ensures)

@@ -10,8 +10,8 @@ use Rattle.flattening.proofs.optimize.Goals as goal
 
 pub returns : goal.returns
 returns c t j sp =
-    let s = c.args.s.now in
-    let first = c.args.first in
+    let s = c.args.sheet.numbers.now in
+    let first = c.args.sheet.first in
     let rd = c.requires in
     let same = (one_tree_lem first s t rd.tree 0 j rd.end sp rd.spells).1 in
     let w = c.flatten-written.ensures t j sp in

@@ -1,14 +1,10 @@
--- `sheets::natural` meets its contract: by the test on the sign. Assumes nothing.
-use mir.Facts.{to_z-of_z}
-use Rattle.sheets.proofs.SignLaws.{below_zero, not_below_natural_of}
+-- `sheets::natural` meets its contract. Assumes nothing.
+use Rattle.std.proofs.Common.{◌∙◌}
+use Rattle.std.proofs.lemmas.Int.{to_z-of_z}
+use Rattle.sheets.proofs.SignLaws.{converted}
 use Rattle.sheets.proofs.natural.Goals as goal
 
-pub returns-then-x-lt0 : goal.returns-then-x-lt0
-returns-then-x-lt0 c =
-    let e = to_z-of_z c.ranges.x in
-    below_zero c.args.x (rw e at c.if-x-lt0.true)
-
-pub returns-else-x-lt0 : goal.returns-else-x-lt0
-returns-else-x-lt0 c =
-    let e = to_z-of_z c.ranges.x in
-    rw e (not_below_natural_of c.args.x (rw e at c.if-x-lt0.false))
+pub returns : goal.returns
+returns c =
+    let e = to_z-of_z _ c.args.x c.ranges.x in
+    c.unwrap_or.ensures ∙ converted c.args.x _ c.ranges.x (rw e at c.try_from.ensures)

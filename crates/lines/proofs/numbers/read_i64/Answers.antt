@@ -1,54 +1,47 @@
 -- `lines::numbers::read_i64` meets its contract. Assumes nothing.
-use mir.Syntax.{w64}
-use mir.ValLaws.{to_z_pos, to_z-of_z}
-use Rattle.lines.specs.declared.numbers.Number.TheVariants.{Of}
-use mathlib.Core.Path.{sym, ap, ◌∙◌}
-use Prim.Native.Nat.{ℕ, ◌-◌, ◌^◌}
-use native.Mathlib.Omega.{arith}
-use lib.IntN.{pos, neg_ℤ}
+use Rattle.std.proofs.Common.{◌≡◌, ℕ, zero, suc, ◌≤◌, ◌^◌, ℤ, pos, ◌-ℤ◌, ap, sym, ◌∙◌, arith, FitsSigned, w64}
+use Rattle.std.specs.Prelude.{Option, Some, None, neg_ℤ, ◌-◌}
+use Rattle.std.specs.Option.{SomeIff, option_map}
+use mir.ValLaws.{to_z_pos}
+use Rattle.std.proofs.Math.IntN.{+ℤ_idl}
 use Rattle.lines.specs.Numbers.{magnitude_of}
-use Rattle.lines.specs.NumbersLaws.{signed_of, number_minus, number_plain, magnitude_within}
-use Rattle.lines.proofs.PartLaws.{part_rest}
-use Rattle.lines.proofs.FirstLaws.{negative_some}
+use Rattle.lines.specs.NumbersLaws.{number_minus, number_plain, magnitude_within}
 use Rattle.lines.proofs.numbers.read_i64.Goals as goal
 
-pub slice_bounds-magnitude-count : goal.slice_bounds-magnitude-count
-slice_bounds-magnitude-count c = omega (arith, negative_some _ (sym c.is_negative.ensures ∙ c.if-is_negative.true))
+fits : (m : ℕ) → m ≤ 2 ^ 63 → FitsSigned w64 (neg_ℤ (pos m))
+fits zero l = record { sfits = omega arith }
+fits (suc m) l = record { sfits = omega arith }
 
-pub slice_bounds-magnitude-start : goal.slice_bounds-magnitude-start
-slice_bounds-magnitude-start c = omega (arith, negative_some _ (sym c.is_negative.ensures ∙ c.if-is_negative.true))
+below : (m : ℕ) (r : Option ℤ) → m ≤ 2 ^ 63 → SomeIff r (FitsSigned w64 (pos 0 -ℤ pos m)) (pos 0 -ℤ pos m) → r ≡ Some (neg_ℤ (pos m))
+below m None l f = absurd (f (rw (+ℤ_idl (neg_ℤ (pos m))) (fits m l)))
+below m (Some x) l h = ap Some (h.1 ∙ +ℤ_idl (neg_ℤ (pos m)))
 
-pub negated-requires : goal.negated-requires
-negated-requires c = omega (arith, magnitude_within (2 ^ 63) _ _ (sym c.in-Of.ensures))
+pub returns-in_err-magnitude-in-Some : goal.returns-in_err-magnitude-in-Some
+returns-in_err-magnitude-in-Some c =
+    let minus = c.in-Some.ensures in
+    let read = ap (magnitude_of (2 ^ 63)) (sym minus.1) ∙ sym c.magnitude.ensures ∙ c.in_err-magnitude-in-Some.was in
+    c.from_residual.ensures ∙ sym (number_minus c.args.word.now minus.0 ∙ ap (option_map (λ (k : ℕ). neg_ℤ (pos k))) read)
 
-pub returns-in-Of : goal.returns-in-Of
-returns-in-Of c =
-    let w = c.args.word.now in
-    let sign = sym c.is_negative.ensures ∙ c.if-is_negative.true in
-    let read = sym (ap (magnitude_of (2 ^ 63)) (part_rest w 1)) ∙ sym c.in-Of.ensures in
-    ap Of (to_z-of_z w64 _ (record { sfits = c.negated.type_inv }) ∙ c.negated.ensures)
-    ∙ sym (number_minus w sign ∙ ap (signed_of (λ (k : ℕ). neg_ℤ (pos k))) read)
-
-pub returns-in-None : goal.returns-in-None
-returns-in-None c =
-    let w = c.args.word.now in
-    let sign = sym c.is_negative.ensures ∙ c.if-is_negative.true in
-    let read = sym (ap (magnitude_of (2 ^ 63)) (part_rest w 1)) ∙ sym c.in-None.ensures in
-    sym (number_minus w sign ∙ ap (signed_of (λ (k : ℕ). neg_ℤ (pos k))) read)
+pub returns-in_err-magnitude-in-None : goal.returns-in_err-magnitude-in-None
+returns-in_err-magnitude-in-None c =
+    let read = sym c.magnitude-in-None.ensures ∙ c.in_err-magnitude-in-None.was in
+    c.from_residual-in_err-magnitude-in-None.ensures ∙ sym (number_plain c.args.word.now c.in-None.ensures ∙ ap (option_map pos) read)
 
 pub overflow_cast-result : goal.overflow_cast-result
-overflow_cast-result c = record { sfits = omega (arith, magnitude_within (2 ^ 63 - 1) _ _ (sym c.in-Of-magnitude.ensures)) }
+overflow_cast-result c =
+    let read = sym c.magnitude-in-None.ensures ∙ c.in_ok-magnitude-in-None.was in
+    record { sfits = omega (arith, magnitude_within (2 ^ 63 - 1) _ _ read) }
 
-pub returns-in-Of-magnitude : goal.returns-in-Of-magnitude
-returns-in-Of-magnitude c =
-    let w = c.args.word.now in
-    let sign = sym c.is_negative.ensures ∙ c.if-is_negative.false in
-    let read = sym c.in-Of-magnitude.ensures in
-    ap Of (to_z_pos w64 _ (omega (arith, magnitude_within (2 ^ 63 - 1) w _ read)))
-    ∙ sym (number_plain w sign ∙ ap (signed_of pos) read)
+pub returns-in_ok-magnitude-in-Some : goal.returns-in_ok-magnitude-in-Some
+returns-in_ok-magnitude-in-Some c =
+    let minus = c.in-Some.ensures in
+    let read = ap (magnitude_of (2 ^ 63)) (sym minus.1) ∙ sym c.magnitude.ensures ∙ c.in_ok-magnitude-in-Some.was in
+    below _ _ (magnitude_within (2 ^ 63) _ _ read) c.checked_sub_unsigned.ensures
+    ∙ sym (number_minus c.args.word.now minus.0 ∙ ap (option_map (λ (k : ℕ). neg_ℤ (pos k))) read)
 
-pub returns-in-None-magnitude : goal.returns-in-None-magnitude
-returns-in-None-magnitude c =
+pub returns-in_ok-magnitude-in-None : goal.returns-in_ok-magnitude-in-None
+returns-in_ok-magnitude-in-None c =
     let w = c.args.word.now in
-    let sign = sym c.is_negative.ensures ∙ c.if-is_negative.false in
-    sym (number_plain w sign ∙ ap (signed_of pos) (sym c.in-None-magnitude.ensures))
+    let read = sym c.magnitude-in-None.ensures ∙ c.in_ok-magnitude-in-None.was in
+    ap Some (to_z_pos w64 _ (omega (arith, magnitude_within (2 ^ 63 - 1) w _ read)))
+    ∙ sym (number_plain w c.in-None.ensures ∙ ap (option_map pos) read)

@@ -8,12 +8,12 @@ use Rattle.predicates.specs.Integers.{integers_of}
 use Rattle.predicates.proofs.MeaningLaws.{literal_scale}
 use Rattle.trials.proofs.predicate_trials.says.Goals as goal
 
-pub evaluate-requires : goal.evaluate-requires
+pub evaluate-truth-requires : goal.evaluate-truth-requires
 unfolding ascends integers_of tabulate signed_word word
-evaluate-requires g c =
+evaluate-truth-requires g c =
     record {
       literal_scale = rw c.literal_of-literal.ensures (literal_scale _ _ 1 (omega arith));
-      value_scale = c.requires;
+      value_scale = c.requires.value_scale;
       elements_ascend = refl;
       list_ascends = sym c.ascending.ensures ∙ c.if-ascending.true;
     }

@@ -1,0 +1,66 @@
+-- What the code's tests of a table tell of its marks: of one attribute, and of all.
+-- Assumes nothing.
+use Rattle.std.proofs.Common.{◌≡◌, true, false, Bool, not, Option, None, Some, List, ℕ, ◌≤◌, ◌<◌, length}
+use Rattle.std.proofs.Common.{refl, sym, ap, ◌∙◌, true≢false, zero-add, arith}
+use Rattle.std.specs.Bool.{MatchBool}
+use Rattle.std.specs.List.{AllWithin, HoldsAt, range_with_len}
+use Rattle.std.specs.Option.{is_some, is_none}
+use Rattle.std.proofs.lemmas.List.FromFn.{length-range_with_len, get_or-range_with_len}
+use borrow.Author.Tests.{eq-eqb, ne_eqb, le-leb, lt-leb}
+use Rattle.lists.specs.AndLaws.{and_first, and_second, and_skip, and_both}
+use Rattle.lists.specs.BelowLaws.{below_all, below_broken}
+use Rattle.attributes.specs.declared.AttributeId.{AttributeId}
+use Rattle.attributes.specs.Kinds.{kind_count}
+use Rattle.attributes.specs.Table.{attribute_limit, name_limit, table_size, is_between}
+use Rattle.attributes.specs.Table.{count_of, kind_at, length_at, name_at, named, first_below}
+use Rattle.attributes.specs.Sound.{sound_attribute, sound_table}
+
+-- ---- one attribute
+
+none_told : (o : Option AttributeId) (r : Bool) → is_some o ≡ not r → r ≡ is_none o
+none_told (Some i) true h = absurd (true≢false h)
+none_told (Some i) false h = refl
+none_told None true h = refl
+none_told None false h = absurd (true≢false (sym h))
+
+module _ (t : List ℕ) (i : ℕ) where
+  pub kind_broken : (told : Bool) → told ≡ is_between 1 (kind_at t i) kind_count → told ≡ false → false ≡ sound_attribute t i
+  unfolding sound_attribute
+  kind_broken told e f = sym (and_first _ _ (and_first _ _ (sym e ∙ f)))
+
+  pub length_broken : (told : Bool) → told ≡ is_between 1 (length_at t i) name_limit → told ≡ false → false ≡ sound_attribute t i
+  unfolding sound_attribute
+  length_broken told e f = sym (and_first _ _ (and_second _ _ (sym e ∙ f)))
+
+  pub new_told : (kinded long : Bool) → kinded ≡ is_between 1 (kind_at t i) kind_count → kinded ≡ true
+      → long ≡ is_between 1 (length_at t i) name_limit → long ≡ true → (n : List ℕ) → n ≡ name_at t i
+      → (o : Option AttributeId) (r : Bool) → o ≡ first_below (named t n) i → is_some o ≡ not r → r ≡ sound_attribute t i
+  unfolding sound_attribute
+  new_told kinded long d e f g n m o r h k =
+      none_told o r k ∙ ap is_none h ∙ rw m (sym (and_skip _ _ (and_both _ _ (sym d ∙ e) (sym f ∙ g))))
+
+-- ---- all
+
+module _ (t : List ℕ) where
+  pub size_broken : (length t ≡ table_size → ⊥) → false ≡ sound_table t
+  unfolding sound_table
+  size_broken h = sym (and_first _ _ (and_first _ _ (ne_eqb _ _ h)))
+
+  pub count_broken : (n : ℕ) → n ≡ count_of t → attribute_limit < n → false ≡ sound_table t
+  unfolding sound_table
+  count_broken n e h = sym (and_first _ _ (and_second _ _ (lt-leb _ _ (rw e at h))))
+
+  pub all_told : (n : ℕ) → n ≡ count_of t → length t ≡ table_size → n ≤ attribute_limit → (r : Bool)
+      → MatchBool r (AllWithin (λ i. sound_attribute t i ≡ true) (range_with_len 0 n) 0 (length (range_with_len 0 n)))
+      ((k : ℕ) × (k < length (range_with_len 0 n)) × HoldsAt (λ i. sound_attribute t i ≡ false) (range_with_len 0 n) k)
+      → r ≡ sound_table t
+  unfolding sound_table
+  all_told n e size few true h =
+      let each : (k : ℕ) → k < n → sound_attribute t k ≡ true =
+      λ k l. rw (get_or-range_with_len, zero-add) at (h k 0 (omega arith) (omega (arith, length-range_with_len 0 n))) in
+      sym (and_both _ _ (and_both _ _ (eq-eqb _ _ size) (le-leb _ _ (rw e at few)))
+      (below_all (sound_attribute t) (count_of t) (λ k l. each k (omega arith))))
+  all_told n e size few false h =
+      let l : h.0 < n = omega (arith, h.1, length-range_with_len 0 n) in
+      let broken : sound_attribute t h.0 ≡ false = rw (get_or-range_with_len, zero-add) at (h.2 0) in
+      sym (and_second _ _ (below_broken (sound_attribute t) h.0 (count_of t) (omega arith) broken))

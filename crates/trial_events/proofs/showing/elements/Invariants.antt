@@ -1,9 +1,0 @@
--- `trial_events::showing::elements`: the loop ends. Assumes nothing.
-use Rattle.std.proofs.Common.{length, ◌≤◌, ◌-◌}
-use Rattle.trial_events.proofs.showing.elements.Given as goal
-
-abbrev pub invariant-loop-i : goal.invariant-loop-i
-invariant-loop-i g l = l.i ≤ length l.list
-
-abbrev pub decreases-loop-i : goal.decreases-loop-i
-decreases-loop-i g l = length l.list - l.i

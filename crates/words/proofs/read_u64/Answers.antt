@@ -1,7 +1,0 @@
--- `words::read_u64` meets its contract. Assumes nothing.
-use native.Mathlib.Omega.{arith}
-use Rattle.words.proofs.WordLaws.{word_split}
-use Rattle.words.proofs.read_u64.Goals as goal
-
-pub returns : goal.returns
-returns c = omega (arith, word_split 4 4 c.args.b.now c.args.at)

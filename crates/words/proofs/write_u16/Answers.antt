@@ -1,8 +1,0 @@
--- `words::write_u16` meets its contract. Assumes nothing.
-use Rattle.words.proofs.WordLaws.{put_two}
-use Rattle.words.proofs.write_u16.Goals as goal
-
-pub returns : goal.returns
-returns c =
-    let a = c.args in
-    cc (put_two 1 1 a.b.now a.at a.x)
