@@ -1,21 +1,34 @@
 -- What the code's tests of a table tell of its marks: of one attribute, and of all.
 -- Assumes nothing.
-use Rattle.std.proofs.Common.{◌≡◌, true, false, Bool, not, Option, None, Some, List, ℕ, ◌≤◌, ◌<◌, length}
-use Rattle.std.proofs.Common.{refl, sym, ap, ◌∙◌, true≢false, zero-add, arith}
+use Rattle.std.proofs.Common.{◌≡◌, true, false, Bool, not, Option, None, Some, Result, Ok, Err, List, ℕ, ◌≤◌, ◌<◌, length}
+use Rattle.std.proofs.Common.{refl, sym, ap, ◌∙◌, ⊎_elim, true≢false, zero-add, arith}
 use Rattle.std.specs.Bool.{MatchBool}
 use Rattle.std.specs.List.{AllWithin, HoldsAt, range_with_len}
+use Rattle.std.specs.Prelude.{is_ok}
 use Rattle.std.specs.Option.{is_some, is_none}
 use Rattle.std.proofs.lemmas.List.FromFn.{length-range_with_len, get_or-range_with_len}
 use borrow.Author.Tests.{eq-eqb, ne_eqb, le-leb, lt-leb}
 use Rattle.lists.specs.AndLaws.{and_first, and_second, and_skip, and_both}
 use Rattle.lists.specs.BelowLaws.{below_all, below_broken}
 use Rattle.attributes.specs.declared.AttributeId.{AttributeId}
-use Rattle.attributes.specs.Kinds.{kind_count}
+use Rattle.attributes.specs.declared.AttributeKind.{AttributeKind}
+use Rattle.attributes.specs.Kinds.{kind_count, IsKindOf}
+use Rattle.attributes.specs.KindsLaws.{kind_range}
 use Rattle.attributes.specs.Table.{attribute_limit, name_limit, table_size, is_between}
 use Rattle.attributes.specs.Table.{count_of, kind_at, length_at, name_at, named, first_below}
 use Rattle.attributes.specs.Sound.{sound_attribute, sound_table}
 
 -- ---- one attribute
+
+-- whether a number that was read is that of a kind
+pub kind_told : (m n : ℕ) → m ≡ n → (r : Result AttributeKind ℕ) → IsKindOf m r → (told : Bool) → told ≡ is_ok r
+    → told ≡ is_between 1 n kind_count
+unfolding is_between
+kind_told m n same (Ok kind) e told f =
+    let k = kind_range kind in
+    f ∙ sym (and_both _ _ (le-leb 1 n (omega (arith, k.0, e))) (le-leb n kind_count (omega (arith, k.1, e))))
+kind_told m n same (Err s) e told f =
+    f ∙ sym (⊎_elim (λ h. and_first _ _ (lt-leb 1 n (omega arith))) (λ h. and_second _ _ (lt-leb n kind_count (omega arith))) e.1)
 
 none_told : (o : Option AttributeId) (r : Bool) → is_some o ≡ not r → r ≡ is_none o
 none_told (Some i) true h = absurd (true≢false h)

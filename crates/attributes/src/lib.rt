@@ -24,10 +24,8 @@ pub const RECORD_SIZE: usize = 2 + NAME_LIMIT;
 // The table holds the number of attributes and the records.
 pub const TABLE_SIZE: usize = 1 + RECORD_SIZE * ATTRIBUTE_LIMIT;
 
-// The kinds are numbered from 1 to this.
-pub const KIND_COUNT: usize = 6;
-
 // An attribute by its number in the table. A type of its own, so that no word number can stand for it.
+// Its bound stands in the clauses that need it: `.0` is public, and as an invariant it would be asked of each caller who makes one.
 #[derive(Clone, Copy, Debug, PartialEq, Eq)]
 pub struct AttributeId(pub usize);
 
@@ -78,8 +76,8 @@ pub struct Definition {
     pub kind: AttributeKind,
 }
 
-// A table that has every mark of a sound one: lent, as a part of a book's bytes. `new` tests the bytes; who knows that they are sound makes it
-// of them with no test.
+// A table that has every mark of a sound one: lent, as a part of a book's bytes. `new` tests the bytes; a caller who knows that they are
+// sound needs no test.
 #[derive(Clone, Copy)]
 pub struct AttributeTable<'a> {
     pub bytes: &'a [u8],
@@ -108,6 +106,7 @@ impl<'a> AttributeTable<'a> {
     }
 
     // The number of an attribute's kind.
+    // A number and no Result: `kind_at` speaks of every record, and a record past the last attribute may hold any byte.
     #[tactic(auto, using(crate::specs::SoundLaws::sound_size))]
     pub fn by_id(self, id: AttributeId) -> u8
         requires { id.0 < attribute_limit }
@@ -126,8 +125,8 @@ impl<'a> AttributeTable<'a> {
     }
 }
 
-// What follows takes a slice of a table's length: the public ones among it ask for no more, and a type of that length would ask for it
-// where a caller holds a slice.
+// What follows takes a slice of a table's length. The clauses of the public ones ask for no more of it, and in the private ones a struct
+// for the length would be no plainer: the public ones and the two that write would have to make it at each call.
 
 // Where the record of an attribute begins.
 fn record_at(i: usize) -> usize
@@ -145,7 +144,7 @@ pub fn len(table: &[u8]) -> usize
     usize::from(table[0])
 }
 
-// The number of an attribute's kind.
+// The number of an attribute's kind, as `AttributeTable::by_id` gives it.
 pub fn by_id(table: &[u8], id: AttributeId) -> u8
     requires { (length table.now ≡ table_size) × (id.0 < attribute_limit) }
     ensures { result ≡ kind_at table.now id.0 }
@@ -207,8 +206,8 @@ fn attribute_sound(table: &[u8], i: usize) -> bool
     requires { (length table.now ≡ table_size) × (i < attribute_limit) }
     ensures { result ≡ sound_attribute table.now i }
 {
-    let kind = usize::from(by_id(table, AttributeId(i)));
-    (1..=KIND_COUNT).contains(&kind)
+    let kind = by_id(table, AttributeId(i));
+    AttributeKind::try_from(kind).is_ok()
         && (1..=NAME_LIMIT).contains(&length_of(table, i))
         && first_named(table, name_of(table, i), i).is_none()
 }
@@ -223,13 +222,13 @@ pub fn is_sound(table: &[u8]) -> bool
 }
 
 // Counts one attribute more and writes its record.
-fn write_record(table: &mut [u8], kind: u8, name: &[u8])
+fn write_record(table: &mut [u8], kind: AttributeKind, name: &[u8])
     requires { (length table.old ≡ table_size) × (count_of table.old < attribute_limit) × (length name.now ≤ name_limit) }
-    ensures { table.new ≡ added table.old kind name.now }
+    ensures { table.new ≡ added table.old (kind_number kind) name.now }
 {
     let at = record_at(len(table));
     table[0] += 1;
-    table[at] = kind;
+    table[at] = u8::from(kind);
     table[at + 1] = name.len() as u8;
     write_name(table, at + 2, name);
 }
@@ -251,6 +250,6 @@ pub fn define(table: &mut [u8], definition: Definition) -> Result<(), Refusal>
     if by_name(table, name).is_some() {
         return Err(Refusal::NameTwice);
     }
-    write_record(table, u8::from(definition.kind), name);
+    write_record(table, definition.kind, name);
     Ok(())
 }

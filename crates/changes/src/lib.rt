@@ -11,7 +11,9 @@ ghost use Rattle.changes.specs.Effects.{Room, Placed, ElementsPut, JoinPut, Pred
 
 use store::{Count, Limits, Record, Rule};
 
-// Each of the two runs is written by itself: one function over both would take the writing as a closure, longer than either.
+// The children put as child places from `at` on.
+// This function and `write_elements` stay two: one over both would take the writing as a closure, longer than either.
+#[tactic(auto, unfolding(words::specs::Run::wrote))]
 fn write_children(bytes: &mut [u8], limits: Limits, at: usize, children: &[u16])
     requires { Laid limits bytes.old × (at + length children.now ≤ limits.places) }
     ensures { bytes.new ≡ put_all_children limits bytes.old at children.now }
@@ -21,6 +23,7 @@ fn write_children(bytes: &mut [u8], limits: Limits, at: usize, children: &[u16])
     }
 }
 
+// The list put as list elements from `at` on.
 #[tactic(auto, using(crate::proofs::WritingLaws::elements_more), unfolding(words::specs::Run::wrote))]
 fn write_elements(bytes: &mut [u8], limits: Limits, at: usize, list: &[i64])
     requires { Laid limits bytes.old × (at + length list.now ≤ limits.elements) }
@@ -58,6 +61,7 @@ fn close(bytes: &mut [u8], limits: Limits, content: Record, places: usize, eleme
 }
 
 // One And or Or more, over these children.
+// This and `append_predicate` stay two: one over both would take the count, the writing and the sum that grows, longer than either.
 pub fn append_join(bytes: &mut [u8], limits: Limits, content: Record, children: &[u16])
     requires { Room limits bytes.old (length children.now) 0 }
     ensures { JoinPut limits bytes.old content children.now bytes.new }
@@ -90,6 +94,7 @@ pub fn rule_place(bytes: &[u8], limits: Limits, id: u32) -> usize
 }
 
 // A rule put at place i: those from there on move up.
+// This loop and the two like it stay: `copy_within` would take two public functions more in `store`, which alone has the tables' places.
 pub fn insert_rule(bytes: &mut [u8], limits: Limits, i: usize, rule: Rule)
     requires { Laid limits bytes.old × (i ≤ rule_count bytes.old) × (rule_count bytes.old < limits.rules) }
     ensures { bytes.new ≡ insert_rule bytes.old i rule }
@@ -124,13 +129,13 @@ pub fn renumber_roots(bytes: &mut [u8], limits: Limits, news: &[u16])
 {
     for i in 0..store::get_count(bytes, Count::Rules) {
         let rule = store::get_rule(bytes, limits, i);
-        let root = news[rule.root as usize] as u32;
+        let root = u32::from(news[rule.root as usize]);
         store::put_rule(bytes, limits, i, Rule { root, ..rule });
     }
 }
 
-// The loop is `insert_rule`'s over another table: one over both would take the table as a trait of two impls, longer than both loops.
 // A part's number put at place k of the n entries of the order table in use: those from there on move up.
+// The loop is `insert_rule`'s over another table: one over both would take the table as a trait of two impls, longer than both loops.
 pub fn insert_entry(bytes: &mut [u8], limits: Limits, n: usize, k: usize, part: u16)
     requires { Laid limits bytes.old × (k ≤ n) × (n < limits.parts) }
     ensures { bytes.new ≡ insert_entry limits bytes.old n k part }

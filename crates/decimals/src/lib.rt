@@ -13,7 +13,9 @@ mod powers;
 // The greatest scale that a decimal has in a rule or an event.
 pub const SCALE_LIMIT: u8 = 28;
 
-#[derive(Clone, Copy, Debug, PartialEq, Eq)]
+// No `==`: it would be that of the two numbers, under which 85/0 and 8500/2 differ, where `compare` says that they are equal.
+// The scale's limit stays a clause of `compare`: an event may hold any scale, and `events::suits` judges it.
+#[derive(Clone, Copy, Debug)]
 pub struct Decimal {
     pub number: i64,
     pub scale: u8,
@@ -45,17 +47,17 @@ pub fn compare(left: Decimal, right: Decimal) -> Ordering
 }
 
 // Whether a decimal is its own normal form.
-pub fn is_normal(d: Decimal) -> bool
-    ensures { result ≡ is_normal d }
+pub fn is_normal(decimal: Decimal) -> bool
+    ensures { result ≡ is_normal decimal }
 {
-    d.scale == 0 || d.number % 10 != 0
+    decimal.scale == 0 || decimal.number % 10 != 0
 }
 
 // The normal form: two decimals have the same one exactly when their values are equal.
-pub fn normal(d: Decimal) -> Decimal
-    ensures { result ≡ normal_of d }
+pub fn normal(decimal: Decimal) -> Decimal
+    ensures { result ≡ normal_of decimal }
 {
-    let mut rest = d;
+    let mut rest = decimal;
     while !is_normal(rest) {
         let number = rest.number / 10;
         let scale = rest.scale - 1;

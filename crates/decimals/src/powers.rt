@@ -4,7 +4,7 @@ ghost use Rattle.std.specs.Prelude.{◌≡◌, ◌^◌, ◌≤◌};
 // The greatest k for which 10 to the k is an i64.
 pub(crate) const GREATEST_POWER: u8 = 18;
 
-// Entry k is 10 to the k.
+// Entry k is 10 to the k. A table and not `pow`, since a power is one load so, however often a search compares.
 const TENS: [u64; 19] = [
     1,
     10,
@@ -31,5 +31,5 @@ pub(crate) fn ten_to(k: u8) -> u64
     requires { k ≤ 18 }
     ensures { result ≡ 10 ^ k }
 {
-    TENS[k as usize]
+    TENS[usize::from(k)]
 }

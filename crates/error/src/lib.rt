@@ -1,12 +1,19 @@
-// The refusals of a call, by name: what error.rs is in the Rust. Each has the number of its row in the table of answers, and that number
-// stands here and nowhere else in the code; specs/Answers.antt says when each is given.
+// The refusals of a call, by name: what error.rs is in the Rust. Each has the number of its row in the table of answers, and the table's
+// numbers stand here and nowhere else in the code; specs/Answers.antt says when each is given.
 #![tactic(auto)]
 
-ghost use Rattle.std.specs.Prelude.{◌≡◌};
+ghost use Rattle.std.specs.Prelude.{◌≡◌, Some};
 ghost use Rattle.error.specs.Answers.{Refused, number, answered};
+ghost use Rattle.error.specs.Texts.{refusal_text};
 
 use std::error::Error;
 use std::fmt;
+
+// The number in the table of a call that did what it says.
+pub const DONE: u8 = 0;
+
+// The number in the table of a dated value that was out of date: its attribute is undefined now.
+pub const NOT_SET: u8 = 40;
 
 #[derive(Clone, Copy, Debug, PartialEq, Eq)]
 pub enum Refusal {
@@ -46,6 +53,8 @@ impl Refusal {
 }
 
 impl fmt::Display for Refusal {
+    ghost output = { λ refusal. Some (refusal_text refusal) };
+
     fn fmt<W: fmt::Write>(&self, f: &mut fmt::Formatter<W>) -> fmt::Result {
         f.write_str(match self {
             Refusal::SheetMalformed => "the numbers handed in are no rule sheet",
@@ -66,9 +75,9 @@ impl fmt::Display for Refusal {
 
 impl Error for Refusal {}
 
-// The number that stands in the table for what a call gave: 0 where nothing was refused.
+// The number that stands in the table for what a call gave.
 pub fn number(given: Result<(), Refusal>) -> u8
     ensures { result ≡ number (answered given) }
 {
-    given.map_or_else(|refusal| refusal.number(), |_| 0)
+    given.map_or_else(|refusal| refusal.number(), |_| DONE)
 }

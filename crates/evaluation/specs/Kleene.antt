@@ -13,6 +13,11 @@ row f u t False = f
 row f u t Undefined = u
 row f u t True = t
 
+-- the value of what is known to hold or not to hold
+abbrev pub truth_from : Bool → Truth
+truth_from false = False
+truth_from true = True
+
 abbrev pub and_of : Truth → Truth → Truth
 and_of False = row False False False
 and_of Undefined = row False Undefined Undefined

@@ -2,7 +2,7 @@
 #![tactic(auto)]
 
 ghost use Rattle.std.specs.Prelude.{◌≡◌, ◌<◌, length, get_or, set};
-ghost use Rattle.evaluation.specs.Kleene.{not_of, join_of, unit_of, decider_of};
+ghost use Rattle.evaluation.specs.Kleene.{truth_from, not_of, join_of, unit_of, decider_of};
 ghost use Rattle.evaluation.specs.Table.{table_of, at_table};
 ghost use Rattle.evaluation.specs.Results.{answer_bits, result_byte, evaluated, outcome_of};
 
@@ -11,6 +11,14 @@ pub enum Truth {
     False,
     Undefined,
     True,
+}
+
+impl From<bool> for Truth {
+    ghost from_gives = { λ b truth. truth ≡ truth_from b };
+
+    fn from(answer: bool) -> Truth {
+        if answer { Truth::True } else { Truth::False }
+    }
 }
 
 #[derive(Clone, Copy, Debug, PartialEq, Eq)]
@@ -83,7 +91,8 @@ pub fn not(a: Truth) -> Truth
     }
 }
 
-// The bits of a result byte. A byte of 0 is a part never valued.
+// The bits of a result byte, in the scope's form: three answers in two bits and a mark. A byte of 0 is a part never valued.
+// The results and the part stay parameters: a struct would have to be two, since `set_result` changes the bytes that the others read.
 const FAILED: u8 = 1;
 
 const SUCCESS: u8 = 2;

@@ -6,8 +6,8 @@ ghost use Rattle.std.specs.Prelude.{◌≡◌, ◌+◌, ◌*◌, ◌≤◌, ◌<
 ghost use Rattle.lists.specs.Sets.{list_limit};
 ghost use Rattle.attributes.specs.Table.{attribute_limit};
 ghost use Rattle.events.specs.Values.{kind_number_or, value_number, is_up_to, all_words, is_list, value_of};
-ghost use Rattle.events.specs.Events.{value_at, list_at, value_in, list_in, fresh_of};
-ghost use Rattle.events.specs.Suits.{list_suits, in_range, place_suits, suits_at, suits_of};
+ghost use Rattle.events.specs.Events.{event_of, Shaped, value_at, list_at, value_in, list_in, fresh_of};
+ghost use Rattle.events.specs.Suits.{list_suits, in_range, place_suits, suits_of};
 
 use attributes::{ATTRIBUTE_LIMIT, AttributeId, AttributeKind, AttributeTable};
 use decimals::Decimal;
@@ -24,11 +24,11 @@ pub const UNDEFINED: u8 = 0;
 
 // A word's number: 1 to 65,535 in a rule, 0 in an event for a word that no rule uses. A type of its own, so that no attribute number can
 // stand for it.
-#[derive(Clone, Copy)]
+#[derive(Clone, Copy, Debug, PartialEq, Eq)]
 pub struct StringId(pub i64);
 
 // What an event holds of an attribute. The elements of a list stand beside it, in the event's list store.
-#[derive(Clone, Copy)]
+#[derive(Clone, Copy, Debug)]
 pub enum AttributeValue {
     Undefined,
     Boolean(bool),
@@ -88,10 +88,7 @@ impl AttributeValue {
 pub fn kind_number(kind: Option<AttributeKind>) -> u8
     ensures { result ≡ kind_number_or kind }
 {
-    match kind {
-        None => UNDEFINED,
-        Some(kind) => u8::from(kind),
-    }
+    kind.map_or(UNDEFINED, u8::from)
 }
 
 // The value of a place, by the number of its kind. A number of no kind is undefined.
@@ -111,12 +108,8 @@ fn value_of(kind: u8, number: i64, scale: u8) -> AttributeValue
 }
 
 // The value of an attribute, of whatever slices hold the places of an event.
-pub fn value_at<'a>(
-    kinds: &'a [u8],
-    numbers: &'a [i64],
-    scales: &'a [u8],
-    i: usize,
-) -> AttributeValue
+// Slices and no Event: the clauses of this function, `list_at` and `suits_lent` ask for no Event of a caller who holds the slices alone.
+pub fn value_at(kinds: &[u8], numbers: &[i64], scales: &[u8], i: usize) -> AttributeValue
     requires { (i < length kinds.now) × (i < length numbers.now) × (i < length scales.now) }
     ensures { result ≡ value_at kinds.now numbers.now scales.now i }
 {
@@ -124,7 +117,7 @@ pub fn value_at<'a>(
 }
 
 // The list of an attribute, as a part of the list store. A damaged length reaches no further than the row.
-pub fn list_at<'a>(lists: &'a [i64], lengths: &'a [usize], i: usize) -> &'a [i64]
+pub fn list_at<'a>(lists: &'a [i64], lengths: &[usize], i: usize) -> &'a [i64]
     requires { (list_limit * i + list_limit ≤ length lists.now) × (i < length lengths.now) }
     ensures { result.now ≡ list_at lists.now lengths.now i }
 {
@@ -152,6 +145,7 @@ impl Event {
 }
 
 // Does the number of a kind stand for a list?
+// The kind is a number here and in what follows, for the reason that `Event` gives: a caller may hand in any.
 #[tactic(auto, unfolding(crate::specs::Values::is_list))]
 fn is_list(kind: u8) -> bool
     ensures { result ≡ is_list kind }
@@ -197,21 +191,41 @@ fn place_suits(own: u8, kind: u8, number: i64, scale: u8, length: usize, list: &
     list_suits(kind, length, list) && in_range(kind, number, scale, list)
 }
 
-// Does what the event holds of an attribute suit the table?
-fn suits_at(table: AttributeTable, event: &Event, i: usize) -> bool
-    requires { i < attribute_limit }
-    ensures { result ≡ suits_at table.entry.bytes.now event.now i }
+// Does the event that stands in these slices suit the table?
+pub fn suits_lent(
+    table: AttributeTable,
+    count: usize,
+    kinds: &[u8],
+    numbers: &[i64],
+    scales: &[u8],
+    lengths: &[usize],
+    lists: &[i64],
+) -> bool
+    requires { Shaped (event_of count kinds.now numbers.now scales.now lengths.now lists.now) }
+    ensures { result ≡ suits_of table.entry.bytes.now
+        (event_of count kinds.now numbers.now scales.now lengths.now lists.now) }
 {
-    let own = table.by_id(AttributeId(i));
-    let (kind, number, scale) = (event.kinds[i], event.numbers[i], event.scales[i]);
-    place_suits(own, kind, number, scale, event.lengths[i], event.list(i))
+    count == table.len()
+        && (0..count).all(|i| {
+            let own = table.by_id(AttributeId(i));
+            let list = list_at(lists, lengths, i);
+            place_suits(own, kinds[i], numbers[i], scales[i], lengths[i], list)
+        })
 }
 
 // Does the event suit the table?
 pub fn suits(table: AttributeTable, event: &Event) -> bool
     ensures { result ≡ suits_of table.entry.bytes.now event.now }
 {
-    event.count == table.len() && (0..event.count).all(|i| suits_at(table, event, i))
+    suits_lent(
+        table,
+        event.count,
+        &event.kinds,
+        &event.numbers,
+        &event.scales,
+        &event.lengths,
+        &event.lists,
+    )
 }
 
 // An event of so many attributes, all undefined.

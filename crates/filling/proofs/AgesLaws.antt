@@ -1,5 +1,5 @@
--- Laws of dated readings: a stamp that is past is judged by one difference, and without tolerance a reading is fresh exactly where its stamp
--- is no later than the present and it is not too old. Assumes nothing.
+-- Laws of dated readings: a stamp that is past is judged by one difference, and without tolerance a reading is fresh exactly where its
+-- stamp is no later than the present and it is not too old. Assumes nothing.
 use Rattle.std.specs.Prelude.{◌≡◌, refl, false, ◌↔◌, ℕ, ◌-◌, ◌≤◌}
 use Rattle.std.proofs.Common.{◌∙◌, arith}
 use Rattle.std.proofs.Math.Bool.{true}

@@ -1,27 +1,32 @@
 -- Laws of the refusals.
 --     named_within               what is found by name is a place of an event
+--     kind_none, kind_some       a reading of no kind suits every attribute, and one of a kind those of its own
 --     answer_back                what filling gives for an answer is that answer
 --     done, accepted, filled_at  a reading that no check refuses passed every one, and is set at its place
 --     filled_refused             a refusal is given, and the event as it was
 -- Assumes nothing.
 use Rattle.std.specs.Prelude.{◌≡◌, Bool, true, false, cond, Option, None, Some, List, ℕ, ◌<◌, ℤ}
 use Rattle.std.proofs.Math.Path.{refl}
-use Rattle.std.proofs.Common.{arith, eqb-true, ne_eqb}
+use Rattle.std.proofs.Common.{arith, sym, eqb, eqb-true, ne_eqb}
 use Rattle.std.specs.Option.{is_some}
 use Rattle.error.specs.Answers.{Answer, Done, Refused, NotSet, number, then}
 use Rattle.error.specs.declared.Refusal.{Refusal}
 use Rattle.error.specs.declared.Refusal.TheVariants.{LimitPassed, NoAttribute, OtherKind, EventUnsuited}
 use Rattle.error.proofs.AnswersLaws.{one_number_each}
 use Rattle.attributes.specs.declared.AttributeId.{AttributeId}
+use Rattle.attributes.specs.declared.AttributeKind.{AttributeKind}
+use Rattle.attributes.specs.Kinds.{kind_number}
+use Rattle.attributes.specs.KindsLaws.{kind_range}
 use Rattle.attributes.specs.Table.{attribute_limit, kind_at, by_name}
 use Rattle.attributes.specs.TableLaws.{by_name_named}
 use Rattle.attributes.specs.Sound.{sound_table}
 use Rattle.attributes.specs.SoundLaws.{sound_few}
 use Rattle.events.specs.declared.Event.{Event}
+use Rattle.events.specs.Values.{kind_number_or}
 use Rattle.events.specs.Suits.{suits_of}
 use Rattle.filling.specs.declared.Reading.{Reading}
 use Rattle.filling.specs.declared.Reading.TheVariants.{Undefined}
-use Rattle.filling.specs.Readings.{of_kind, within_limits}
+use Rattle.filling.specs.Readings.{reading_number, of_kind, within_limits}
 use Rattle.filling.specs.Setting.{with_reading}
 use Rattle.filling.specs.Filling.{refuse, place_of, refusal_of, is_done, given_for, answer_of, outcome, filled_when}
 
@@ -34,6 +39,17 @@ pub record Accepted (suited : Bool) (t name : List ℕ) (reading : Reading) (lis
 
 pub named_within : (t name : List ℕ) (id : AttributeId) → sound_table t ≡ true → by_name t name ≡ Some id → id.0 < attribute_limit
 named_within t name id sound e = omega (arith, (by_name_named t name id e).0, sound_few t sound)
+
+-- ---- a reading's kind: none suits every attribute, and one suits its own
+
+pub kind_none : (r : Reading) (own : ℕ) → kind_number_or None ≡ reading_number r → true ≡ of_kind r own
+unfolding of_kind
+kind_none r own h = rw (sym h)
+
+pub kind_some : (r : Reading) (own : ℕ) (kind : AttributeKind) → kind_number_or (Some kind) ≡ reading_number r
+    → eqb (kind_number kind) own ≡ of_kind r own
+unfolding of_kind
+kind_some r own kind h = rw (sym h, ne_eqb (kind_number kind) 0 (λ e. omega (arith, (kind_range kind).0)))
 
 -- ---- what they say where none refuses, and where one does
 

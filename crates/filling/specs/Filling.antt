@@ -57,6 +57,10 @@ answer_of (Err r) = Refused r
 abbrev pub answer_number : Filled → ℕ
 answer_number f = number (answer_of f.answer)
 
+-- an answer, and the event with it
+abbrev pub handed_back : Result Setting Refusal → Event → Filled
+handed_back given e = record { answer = given; event = e }
+
 abbrev pub outcome : Answer → Event → Filled
 outcome answer e = record { answer = given_for answer; event = e }
 

@@ -8,9 +8,10 @@ ghost use Rattle.error.specs.Answers.{answered};
 ghost use Rattle.lists.specs.Sets.{list_limit};
 ghost use Rattle.attributes.specs.Table.{attribute_limit, by_name};
 ghost use Rattle.events.specs.Values.{kind_number_or};
+ghost use Rattle.events.specs.Suits.{suits_of};
 ghost use Rattle.filling.specs.Readings.{reading_number, of_kind, list_within, within_limits};
 ghost use Rattle.filling.specs.Setting.{with_kind, with_scalar, with_list, with_reading};
-ghost use Rattle.filling.specs.Filling.{place_of, refusal_of, answer_number, filled_when, filled_of};
+ghost use Rattle.filling.specs.Filling.{place_of, refusal_of, answer_number, handed_back, filled_when, filled_of};
 ghost use Rattle.filling.specs.Ages.{is_fresh, dated_of};
 
 use attributes::{AttributeKind, AttributeTable};
@@ -20,7 +21,8 @@ use lists::LIST_LIMIT;
 
 // What is handed in for an attribute. The elements of a list stand beside it, as in an event. It is no AttributeValue: a scale or a word
 // may be out of range, and is refused then.
-#[derive(Clone, Copy)]
+// Nor are the two one generic: they differ in what `Float` holds alone, and a parameter for it would stand in every definition of either.
+#[derive(Clone, Copy, Debug)]
 pub enum Reading {
     Undefined,
     Boolean(bool),
@@ -29,6 +31,14 @@ pub enum Reading {
     String(StringId),
     IntegerList,
     StringList,
+}
+
+// The date of a reading, the present, and the greatest age that the reading may have: all in seconds.
+#[derive(Clone, Copy, Debug, PartialEq, Eq)]
+pub struct Dates {
+    pub stamp: u64,
+    pub present: u64,
+    pub greatest_age: u64,
 }
 
 // What a reading that is not refused does: it is set, or its attribute is undefined now, since it was out of date.
@@ -51,8 +61,8 @@ impl Filled {
         ensures { result ≡ answer_number self.now }
     {
         match self.answer {
-            Ok(Setting::Set) => 0,
-            Ok(Setting::NotSet) => 40,
+            Ok(Setting::Set) => error::DONE,
+            Ok(Setting::NotSet) => error::NOT_SET,
             Err(refusal) => refusal.number(),
         }
     }
@@ -83,6 +93,7 @@ fn list_within(list: &[i64]) -> bool
 }
 
 // Does the reading pass no limit?
+// Name, reading and list come one by one here and in what follows, as in EventBuilder's methods: a caller has them apart.
 fn within_limits(reading: Reading, list: &[i64]) -> bool
     ensures { result ≡ within_limits reading list.now }
 {
@@ -105,6 +116,7 @@ fn write_row(lists: &mut [i64], i: usize, places: &[i64])
 }
 
 // Sets a value at a place that is no list.
+// The kind is a number here and in `set_list`: with an AttributeKind each case of `set_reading` would name its kind again, beside `kind`.
 fn set_scalar(event: &mut Event, i: usize, kind: u8, number: i64, scale: u8)
     requires { i < attribute_limit }
     ensures { event.new ≡ with_scalar event.old i kind number scale }
@@ -145,27 +157,25 @@ fn set_reading(event: &mut Event, i: usize, reading: Reading, list: &[i64])
 fn of_kind(reading: Reading, own: u8) -> bool
     ensures { result ≡ of_kind reading own }
 {
-    match reading.kind() {
-        None => true,
-        Some(kind) => u8::from(kind) == own,
-    }
+    reading.kind().is_none_or(|kind| u8::from(kind) == own)
 }
 
-// Where the reading goes, once it is known whether the event suits the table; or the first refusal.
+// Where the reading goes, or the first refusal.
 #[tactic(auto, unfolding(crate::specs::Filling::refusal_of))]
 fn place_for(
-    suited: bool,
     table: AttributeTable,
+    event: &Event,
     name: &[u8],
     reading: Reading,
     list: &[i64],
 ) -> Result<usize, Refusal>
-    ensures answer { answered result ≡ refusal_of suited table.entry.bytes.now name.now reading list.now }
+    ensures answer { answered result ≡ refusal_of (suits_of table.entry.bytes.now event.now)
+        table.entry.bytes.now name.now reading list.now }
     ensures place { IfOk result (λ i. i ≡ place_of (by_name table.entry.bytes.now name.now)) }
     ensures within { IfOk result (λ i. i < attribute_limit) }
     ensures limits { IfOk result (λ _. within_limits reading list.now ≡ true) }
 {
-    if !suited {
+    if !events::suits(table, event) {
         return Err(Refusal::EventUnsuited);
     }
     let id = table.by_name(name).ok_or(Refusal::NoAttribute)?;
@@ -179,6 +189,27 @@ fn place_for(
 }
 
 // Sets the reading if it is fresh, and makes its attribute undefined if not; or refuses it and changes nothing.
+fn set_when(
+    fresh: bool,
+    table: AttributeTable,
+    event: &mut Event,
+    name: &[u8],
+    reading: Reading,
+    list: &[i64],
+) -> Result<Setting, Refusal>
+    ensures { handed_back result event.new ≡ filled_when fresh table.entry.bytes.now event.old name.now reading list.now }
+{
+    let i = place_for(table, event, name, reading, list)?;
+    let (reading, setting) = if fresh {
+        (reading, Setting::Set)
+    } else {
+        (Reading::Undefined, Setting::NotSet)
+    };
+    set_reading(event, i, reading, list);
+    Ok(setting)
+}
+
+// The same of an event by value.
 fn fill_when(
     fresh: bool,
     table: AttributeTable,
@@ -189,31 +220,21 @@ fn fill_when(
 ) -> Filled
     ensures { result ≡ filled_when fresh table.entry.bytes.now event name.now reading list.now }
 {
-    let suited = events::suits(table, &event);
-    let answer = match place_for(suited, table, name, reading, list) {
-        Err(refusal) => Err(refusal),
-        Ok(i) => {
-            if fresh {
-                set_reading(&mut event, i, reading, list);
-                Ok(Setting::Set)
-            } else {
-                set_reading(&mut event, i, Reading::Undefined, list);
-                Ok(Setting::NotSet)
-            }
-        }
-    };
+    let answer = set_when(fresh, table, &mut event, name, reading, list);
     Filled { answer, event }
 }
 
-// Is a reading of this stamp neither too far ahead nor too old?
-fn is_fresh(tolerance: u64, stamp: u64, present: u64, greatest_age: u64) -> bool
-    ensures { result ≡ is_fresh tolerance stamp present greatest_age }
-{
-    stamp.saturating_sub(present) <= tolerance && present.saturating_sub(stamp) <= greatest_age
+impl Dates {
+    // Is a reading of these dates neither too far ahead nor too old?
+    fn is_fresh(self, tolerance: u64) -> bool
+        ensures { result ≡ is_fresh tolerance self.stamp self.present self.greatest_age }
+    {
+        self.stamp.saturating_sub(self.present) <= tolerance
+            && self.present.saturating_sub(self.stamp) <= self.greatest_age
+    }
 }
 
-// Sets a reading for the attribute of this name. Name, reading and list come one by one, as EventBuilder's methods take a name and a value:
-// a caller has them apart.
+// Sets a reading for the attribute of this name.
 pub fn fill(
     table: AttributeTable,
     event: Event,
@@ -226,19 +247,16 @@ pub fn fill(
     fill_when(true, table, event, name, reading, list)
 }
 
-// Sets a reading that bears a date, if it is not out of date; all dates and ages are in seconds.
+// Sets a reading that bears a date, if it is not out of date.
 pub fn fill_dated(
     table: AttributeTable,
     event: Event,
     name: &[u8],
     reading: Reading,
     list: &[i64],
-    stamp: u64,
-    present: u64,
-    greatest_age: u64,
+    dates: Dates,
 ) -> Filled
-    ensures { result ≡ dated_of table.entry.bytes.now event name.now reading list.now stamp present greatest_age }
+    ensures { result ≡ dated_of table.entry.bytes.now event name.now reading list.now dates.stamp dates.present dates.greatest_age }
 {
-    let fresh = is_fresh(0, stamp, present, greatest_age);
-    fill_when(fresh, table, event, name, reading, list)
+    fill_when(dates.is_fresh(0), table, event, name, reading, list)
 }

@@ -4,13 +4,16 @@
 // `store` gives.
 #![tactic(auto)]
 
-ghost use Rattle.std.specs.Prelude.{◌≡◌, ◌<◌, List, ℕ, length, ltb};
+ghost use Rattle.std.specs.Prelude.{◌≡◌, refl, ◌<◌, List, map, ℕ, length, ltb};
+ghost use Rattle.std.specs.Int.{w64};
+ghost use Rattle.std.proofs.Common.{of_z, sym};
+ghost use Rattle.std.proofs.lemmas.List.{map-id};
 ghost use Rattle.std.specs.Iterator.{AlwaysYields, IsFinite};
 ghost use Rattle.store.specs.Layout.{Laid};
 ghost use Rattle.store.specs.Records.{part_count};
 ghost use Rattle.finding.specs.KeyOrder.{key_order};
-ghost use Rattle.finding.specs.Keys.{first_of, head_key, item_at, item_limit, key_at, part_order, head_order, Inside, Compares};
-ghost use Rattle.finding.specs.Keys.{candidate_head, words_of, predicate_key, join_key};
+ghost use Rattle.finding.specs.Keys.{first_of, head_key, item_at, item_limit, key_at, part_order, head_order, Inside};
+ghost use Rattle.finding.specs.Keys.{candidate_head, words_of, key_of};
 ghost use Rattle.finding.specs.Ascent.{rises_b, ascends_b, PartsInside, Neighbours};
 ghost use Rattle.finding.specs.Finding.{FoundRight, Ordered};
 
@@ -30,10 +33,9 @@ fn first_of(content: Record) -> u32
 fn candidate_head(content: Record, length: usize) -> Head
     ensures { result ≡ candidate_head content length }
 {
-    let first = first_of(content);
     Head {
         kind: content.kind,
-        first,
+        first: first_of(content),
         number: content.number,
         length,
         start: 0,
@@ -48,13 +50,20 @@ fn compare_heads(a: Head, b: Head) -> Ordering
 
 // ---- items
 
+// Whether the head is an And's or an Or's, which have the numbers 0 and 1.
+fn is_join(head: Head) -> bool
+    ensures { result ≡ ltb head.kind 2 }
+{
+    head.kind < 2
+}
+
 // An item of a part with this head: a child's number or, of a predicate, an element's two's complement.
 fn get_item(bytes: &[u8], limits: Limits, head: Head, k: usize) -> u64
     requires { Laid limits bytes.now × (k < item_limit (ltb head.kind 2) limits) }
     ensures { result ≡ item_at (ltb head.kind 2) limits bytes.now k }
 {
-    if head.kind < 2 {
-        return store::get_place(bytes, limits, k) as u64;
+    if is_join(head) {
+        return u64::from(store::get_place(bytes, limits, k));
     }
     store::get_element(bytes, limits, k)
 }
@@ -93,37 +102,57 @@ pub fn compare_parts(bytes: &[u8], limits: Limits, p: usize, q: usize) -> Orderi
     compare_part(bytes, limits, p, head, items)
 }
 
-// A predicate's list and an operator's children differ in type and in key: they have a function each, over one comparison.
-// How part p compares with a predicate that need not stand in the book.
-pub fn compare_predicate(
-    bytes: &[u8],
-    limits: Limits,
-    p: usize,
-    content: Record,
-    elements: &[i64],
-) -> Ordering
-    requires { Inside limits bytes.now p }
-    ensures { result ≡ part_order limits bytes.now p (predicate_key content elements.now) }
-{
-    let head = candidate_head(content, elements.len());
-    let items = elements.iter().map(|element| element.cast_unsigned());
-    compare_part(bytes, limits, p, head, items)
+// An item of a candidate: a predicate's element, as its two's complement, or the number of an operator's child.
+pub trait Item: Copy {
+    // What a key has for the item, and for all the items of a candidate.
+    ghost word: { Self → ℕ };
+
+    ghost words: { List Self → List ℕ };
+
+    fn word(self) -> u64
+        ensures { result ≡ word self };
+
+    ghost each: { (items : List Self) → words items ≡ map word items };
 }
 
-// How part p compares with an operator over children that need not stand in the book.
-pub fn compare_join(
+impl Item for i64 {
+    ghost word = { of_z w64 };
+
+    ghost words = { words_of };
+
+    fn word(self) -> u64 {
+        self.cast_unsigned()
+    }
+
+    ghost each = { λ items. refl };
+}
+
+impl Item for u16 {
+    ghost word = { λ child. child };
+
+    ghost words = { λ children. children };
+
+    fn word(self) -> u64 {
+        u64::from(self)
+    }
+
+    ghost each = { λ children. sym (map-id children) };
+}
+
+// How part p compares with a candidate, which need not stand in the book: a predicate and its list, or an operator and its children.
+// `content` and `items` stay two parameters: a struct of both would serve this function and `find_candidate` alone, no plainer.
+pub fn compare_candidate<T: Item>(
     bytes: &[u8],
     limits: Limits,
     p: usize,
     content: Record,
-    children: &[u16],
+    items: &[T],
 ) -> Ordering
     requires { Inside limits bytes.now p }
-    ensures { result ≡ part_order limits bytes.now p (join_key content children.now) }
+    ensures { result ≡ part_order limits bytes.now p (key_of content (T.words items.now)) }
 {
-    let head = candidate_head(content, children.len());
-    let items = children.iter().map(|child| *child as u64);
-    compare_part(bytes, limits, p, head, items)
+    let head = candidate_head(content, items.len());
+    compare_part(bytes, limits, p, head, items.iter().map(|item| item.word()))
 }
 
 // ---- the order table
@@ -137,8 +166,8 @@ fn rises(bytes: &[u8], limits: Limits, k: usize) -> bool
     if k == 0 {
         return true;
     }
-    let p = store::get_entry(bytes, limits, k - 1) as usize;
-    let q = store::get_entry(bytes, limits, k) as usize;
+    let p = usize::from(store::get_entry(bytes, limits, k - 1));
+    let q = usize::from(store::get_entry(bytes, limits, k));
     compare_parts(bytes, limits, p, q).is_lt()
 }
 
@@ -149,7 +178,7 @@ pub fn order_ascends(bytes: &[u8], limits: Limits, count: usize) -> bool
     ensures { result ≡ ascends_b limits bytes.now count }
 {
     for k in 0..count {
-        let p = store::get_entry(bytes, limits, k) as usize;
+        let p = usize::from(store::get_entry(bytes, limits, k));
         if count <= p || !rises(bytes, limits, k) {
             return false;
         }
@@ -157,42 +186,23 @@ pub fn order_ascends(bytes: &[u8], limits: Limits, count: usize) -> bool
     true
 }
 
-// The candidate's part or its place, by halving: `compare` says how a part compares with it.
-fn find<F: Fn(usize) -> Ordering>(bytes: &[u8], limits: Limits, compare: F) -> Result<usize, usize>
-    requires ordered { Ordered limits bytes.now }
-    requires callable { (p : ℕ) → Inside limits bytes.now p → F.pre compare p }
-    ensures { (key : List ℕ) → Compares limits bytes.now key (F.post compare) → FoundRight limits bytes.now key result }
+// A candidate's part or, as an error, the place in the order table where it is to stand, by halving.
+pub fn find_candidate<T: Item>(
+    bytes: &[u8],
+    limits: Limits,
+    content: Record,
+    items: &[T],
+) -> Result<usize, usize>
+    requires { Ordered limits bytes.now }
+    ensures { FoundRight limits bytes.now (key_of content (T.words items.now)) result }
 {
     let count = store::get_count(bytes, Count::Parts);
-    let compare_entry = |k: usize| compare(store::get_entry(bytes, limits, k) as usize);
-    let place = lists::search(count, compare_entry)?;
-    Ok(store::get_entry(bytes, limits, place) as usize)
-}
-
-// A predicate's part or, as an error, the place in the order table where it is to stand.
-pub fn find_predicate(
-    bytes: &[u8],
-    limits: Limits,
-    content: Record,
-    elements: &[i64],
-) -> Result<usize, usize>
-    requires { Ordered limits bytes.now }
-    ensures { FoundRight limits bytes.now (predicate_key content elements.now) result }
-{
-    let compare = |p: usize| compare_predicate(bytes, limits, p, content, elements);
-    find(bytes, limits, compare)
-}
-
-// The part of an operator over children or, as an error, the place in the order table where it is to stand.
-pub fn find_join(
-    bytes: &[u8],
-    limits: Limits,
-    content: Record,
-    children: &[u16],
-) -> Result<usize, usize>
-    requires { Ordered limits bytes.now }
-    ensures { FoundRight limits bytes.now (join_key content children.now) result }
-{
-    let compare = |p: usize| compare_join(bytes, limits, p, content, children);
-    find(bytes, limits, compare)
+    let compare = |k: usize|
+        requires { Ordered limits bytes.now × (k < part_count bytes.now) }
+    {
+        let p = usize::from(store::get_entry(bytes, limits, k));
+        compare_candidate(bytes, limits, p, content, items)
+    };
+    let place = lists::search(count, compare)?;
+    Ok(usize::from(store::get_entry(bytes, limits, place)))
 }

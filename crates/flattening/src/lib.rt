@@ -34,7 +34,7 @@ fn under(operator: Operator, negate: bool) -> Operator
     }
 }
 
-// The code of the predicate in entry i.
+// The code of the predicate in entry i. A code stays a number, here and below: `codes_read` reads them back, and a rule goes on as codes.
 fn predicate_code(negate: bool, i: usize) -> u16
     requires { i < 128 }
     ensures { result ≡ predicate_code negate i }
@@ -57,9 +57,9 @@ fn operator_code(operator: Operator, count: usize) -> u16
 // The tree at entry i, flattened: Not turns what is under it, an operator stands after what it collects. The output is lent, and its next
 // place stands beside it: a call gives it back with the next entry, as `Written`.
 #[cycle(collect_flatten)]
-fn flatten(sheet: Sheet, i: usize, negate: bool, out: &mut [u16], at: usize) -> Written
-    requires { Ready sheet.first sheet.numbers.now i at (length out.old) }
-    ensures { Flattens sheet.entry.first sheet.entry.numbers.now i negate at out.old out.new result }
+fn flatten(sheet: &Sheet, i: usize, negate: bool, out: &mut [u16], at: usize) -> Written
+    requires { Ready sheet.now.first sheet.now.numbers.now i at (length out.old) }
+    ensures { Flattens sheet.now.first sheet.now.numbers.now i negate at out.old out.new result }
 {
     match sheet.shape(i) {
         Shape::Negates => flatten(sheet, i + 1, !negate, out, at),
@@ -87,15 +87,15 @@ fn flatten(sheet: Sheet, i: usize, negate: bool, out: &mut [u16], at: usize) -> 
 // What the tree at entry i brings to an operator above it: its children where it has that operator, else itself.
 #[cycle(collect_flatten)]
 fn collect(
-    sheet: Sheet,
+    sheet: &Sheet,
     i: usize,
     negate: bool,
     parent: Operator,
     out: &mut [u16],
     at: usize,
 ) -> Written
-    requires { Ready sheet.first sheet.numbers.now i at (length out.old) }
-    ensures { Collects parent sheet.entry.first sheet.entry.numbers.now i negate at out.old out.new result }
+    requires { Ready sheet.now.first sheet.now.numbers.now i at (length out.old) }
+    ensures { Collects parent sheet.now.first sheet.now.numbers.now i negate at out.old out.new result }
 {
     match sheet.shape(i) {
         Shape::Negates => collect(sheet, i + 1, !negate, parent, out, at),
@@ -117,7 +117,7 @@ pub fn optimize(sheet: Sheet) -> Optimized
     ensures { Optimizes sheet.entry.first sheet.entry.numbers.now result }
 {
     let mut codes = [0; ENTRY_LIMIT];
-    let written = flatten(sheet, 0, false, &mut codes, 0);
+    let written = flatten(&sheet, 0, false, &mut codes, 0);
     Optimized {
         codes,
         count: written.at,

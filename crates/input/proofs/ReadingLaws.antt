@@ -3,9 +3,15 @@
 --     hand_disordered, hand_outside                     a window that is not within the buffer
 --     hand_line, hand_long, hand_end, hand_more         the step that the code makes of a cut
 --     filled_more                                       what a read leaves: what stood there, and more
+--     filled                                            a read behind what was moved to the start of the buffer
 -- Assumes nothing.
-use Rattle.std.specs.Prelude.{◌≡◌, refl, Bool, true, false, cond, List, ◌++◌, ℕ, ◌-◌, ◌≤◌, ◌<◌, leb, ltb, eqb, length, drop}
-use Rattle.std.proofs.Common.{sym, ap, ◌∙◌, arith, lt-ltb, le-ltb, le-leb, take-append-drop}
+use Rattle.std.specs.Prelude.{◌≡◌, refl, Bool, true, false, cond, List, ◌++◌, ℕ, ◌+◌, ◌-◌, ◌≤◌, ◌<◌, leb, ltb, eqb, length, drop}
+use Rattle.std.proofs.Common.{sym, ap, ◌∙◌, arith, lt-ltb, le-ltb, le-leb, take-append-drop, take, take-take, length-drop, length-take-le}
+use Rattle.std.specs.List.{copy_within}
+use Rattle.std.proofs.lemmas.Grind.{common_steps}
+use Rattle.std.proofs.lemmas.Slice.{take-put_mid_below}
+use borrow.Rule.Slice.PartMut.{put_mid, same_len_mid}
+use borrow.Author.Tests.{eqb-true}
 use Rattle.std.proofs.Math.Decide.{dec_lt}
 use Rattle.std.proofs.lemmas.Bool.{lt-leb}
 use Rattle.lists.specs.And.{◌and◌}
@@ -91,3 +97,22 @@ pub filled_more : (b : List ℕ) (w : Window) (after : List ℕ) (n : Window) �
 filled_more b w after n f =
     sym (take-append-drop (length (unread b w)) (unread after n))
     ∙ ap (λ (x : List ℕ). x ++ drop (length (unread b w)) (unread after n)) f.kept
+
+-- what stood in a window stands at the start of the buffer m once it is moved there, and `got` is written behind it
+pub filled : (b m got : List ℕ) (w : Window) (count : ℕ) → Fine b w → m ≡ copy_within b w.from w.to 0 → length m ≡ length b
+    → length got ≡ length m - (w.to - w.from) → count ≤ length got
+    → Filled b w (put_mid (w.to - w.from) (length m - (w.to - w.from)) m got)
+    (record { from = 0; to = w.to - w.from + count; ended = eqb count 0; passing = w.passing })
+filled b m got w count fine moved same size few =
+    let held = w.to - w.from in
+    let kept : take held m ≡ take held (drop w.from b) = grind (arith, common_steps) in
+    let below : take held (put_mid held (length m - held) m got) ≡ take held m
+    = take-put_mid_below held _ m got held (omega arith) (omega arith) in
+    let long : length (unread b w) ≡ held = length-take-le held (drop w.from b) (omega (arith, length-drop w.from b)) in
+    let whole : length (put_mid held (length m - held) m got) ≡ length m = same_len_mid held _ m got (grind (arith, common_steps)) in
+    record {
+      fine = record { ordered = omega arith; within = omega (arith, whole) };
+      kept = rw long (take-take held (held + count - 0) _ (omega arith) ∙ below ∙ kept);
+      at_end = λ none. let e : held + count - 0 ≡ held = omega (arith, eqb-true count 0 none) in rw e (below ∙ kept);
+      alike = refl;
+    }

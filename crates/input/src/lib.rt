@@ -98,20 +98,18 @@ impl Window {
         requires { self.from ≤ self.to }
         ensures { result ≡ part_of self }
     {
-        let start = self.from;
-        let end = self.to;
         match (self.passing, self.ended) {
             (true, true) => Step::End,
             (true, false) => Step::More(self.emptied(true)),
-            (false, _) if LINE_LIMIT < end - start => Step::TooLong {
-                start,
-                end,
+            (false, _) if LINE_LIMIT < self.to - self.from => Step::TooLong {
+                start: self.from,
+                end: self.to,
                 next: self.emptied(true),
             },
-            (false, true) if start == end => Step::End,
+            (false, true) if self.from == self.to => Step::End,
             (false, true) => Step::Line {
-                start,
-                end,
+                start: self.from,
+                end: self.to,
                 next: self.emptied(false),
             },
             (false, false) => Step::More(self),
@@ -140,10 +138,8 @@ fn fill<R: Read>(input: &mut R, buffer: &mut [u8], window: Window) -> Window
     requires { Fine buffer.old window }
     ensures { Filled buffer.old window buffer.new result }
 {
-    let from = window.from;
-    let to = window.to;
-    let held = to - from;
-    buffer.copy_within(from..to, 0);
+    let held = window.to - window.from;
+    buffer.copy_within(window.from..window.to, 0);
     let got = input.read(&mut buffer[held..]);
     let count = got.unwrap_or(0);
     Window {

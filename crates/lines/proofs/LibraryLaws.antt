@@ -1,10 +1,14 @@
 -- The words of a line as the standard library's iterators give them.
 --     split_words, every_all       all of them, and a test of each
---     words_next, words_passed     those from a place on, one after the other
+--     words_next, words_passed     those from a place on, as a `for` yields them
 -- Assumes nothing.
-use Rattle.std.specs.Prelude.{◌≡◌, refl, Bool, true, false, List, [], ◌∷◌, ℕ, ◌≤◌, ◌<◌, ◌+◌, ◌-◌, eqb, ◌&&◌, length, drop, get_or}
+use Rattle.std.specs.Prelude.{◌≡◌, refl, Bool, true, false, List, [], ◌∷◌, ℕ, ◌≤◌, ◌+◌, ◌-◌, eqb, ◌&&◌, length, drop}
 use Rattle.std.proofs.Common.{arith, le-leb, add-one, drop-cons, take_all, length-drop, drop_of_length-le}
 use Rattle.std.specs.List.{slice_split, onto_first, list_all, slice_range}
+use Rattle.std.specs.Prelude.{Option, Some, None}
+use Rattle.std.specs.Iterator.{Yields}
+use Rattle.std.proofs.lemmas.Iterator.{YieldsList}
+use Rattle.std.proofs.lemmas.Iterator.Consumers.{YieldsList-turn, YieldsList-end}
 use Rattle.lists.specs.And.{◌and◌}
 use Rattle.lines.specs.Text.{space}
 use Rattle.lines.specs.Parts.{on_first, parted}
@@ -40,10 +44,16 @@ module _ (line rest : List ℕ) (at : ℕ) (inside : at ≤ length line) (same :
       rw (le-leb at (length line) inside, same, take_all (length line - at) (drop at line) (omega (arith, length-drop at line)))
       (split_words (drop at line))
 
-  -- a walk along them that has passed k of them: the next is w, or all are passed
-  pub words_next : (k n : ℕ) (w : List ℕ) → k ≡ n → (n < length (slice_split is_space rest)) × (w ≡ get_or (slice_split is_space rest) n w)
-      → drop k (words_from line at) ≡ w ∷ drop (k + 1) (words_from line at)
-  words_next k n w e h = rw (e, words_rest, add-one, drop-cons (slice_split is_space rest) n w h.0, ← h.1)
+  -- a `for` along them, which has yielded k of them: the next is w, or all are passed
+  module _ {S A : Type 0} {steps : S → Option A → S → Type 0} {v : A → List ℕ} {s t : S}
+      (road : YieldsList steps v s (slice_split is_space rest))
+      (ws : List A) (yields : Yields steps s ws t) (k : ℕ) (same_count : k ≡ length ws) (r : Option A) (u : S) where
+    pub words_next : (w : A) → r ≡ Some w → steps t r u → drop k (words_from line at) ≡ v w ∷ drop (k + 1) (words_from line at)
+    words_next w is p =
+        let h = YieldsList-turn road ws t yields r u w is p in
+        rw (same_count, words_rest, add-one, drop-cons (slice_split is_space rest) (length ws) (v w) h.0, ← h.1)
 
-  pub words_passed : (k n : ℕ) → k ≡ n → n ≡ length (slice_split is_space rest) → drop k (words_from line at) ≡ []
-  words_passed k n e f = rw words_rest (drop_of_length-le (slice_split is_space rest) (omega arith))
+    pub words_passed : r ≡ None → steps t r u → drop k (words_from line at) ≡ []
+    words_passed is p =
+        let h = YieldsList-end road ws t yields r u is p in
+        rw words_rest (drop_of_length-le (slice_split is_space rest) (omega (arith, same_count, h.1)))

@@ -29,6 +29,7 @@ fn place_of(bytes: &[u8], byte: u8) -> usize
 }
 
 // Where the word that begins at `at` ends: at the next space, or with the line.
+#[tactic(auto, using(crate::specs::WordsLaws::word_ends, crate::proofs::PartLaws::part_rest), unfolding(crate::specs::Words::word_end))]
 pub fn word_end(line: &[u8], at: usize) -> usize
     requires { at ≤ length line.now }
     ensures { WordEnds line.now at result }
@@ -36,7 +37,8 @@ pub fn word_end(line: &[u8], at: usize) -> usize
     at + place_of(&line[at..], b' ')
 }
 
-// The first newline from one place up to another, or the second place.
+// The first newline from one place up to another, or the second place: no Option, as `LineEnds` is one number's (`WordEnds` too).
+#[tactic(auto, using(crate::specs::WordsLaws::line_ends), unfolding(crate::specs::Words::line_end))]
 pub fn line_end(buffer: &[u8], from: usize, to: usize) -> usize
     requires { (from ≤ to) × (to ≤ length buffer.now) }
     ensures { LineEnds buffer.now from to result }

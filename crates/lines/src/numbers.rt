@@ -7,7 +7,13 @@ ghost use Rattle.lines.specs.Digits.{digit_for, digits_of};
 // The most digits of a number of 64 bits.
 pub const DIGIT_LIMIT: usize = 20;
 
+// What a number of 64 bits with a sign is worth at the most, above zero and below.
+const MOST: u64 = i64::MAX as u64;
+
+const MOST_BELOW_ZERO: u64 = MOST + 1;
+
 // Digits worth `value`, and one digit more: nothing, if the byte is no digit or the worth would pass the limit.
+// By hand, since `parse` takes a plus sign, and a u64's takes no -0: `number_of` and `unsigned_of` refuse the one and read the other.
 #[tactic(auto, using(crate::proofs::WordTests::word_tests), unfolding(crate::specs::Numbers::step_of, crate::specs::Numbers::is_digit))]
 fn with_digit(value: u64, byte: u8, most: u64) -> Option<u64>
     ensures { result ≡ step_of most value byte }
@@ -53,8 +59,8 @@ pub fn read_i64(word: &[u8]) -> Option<i64>
     ensures { result ≡ number_of word.now }
 {
     match without_minus(word) {
-        Some(digits) => 0i64.checked_sub_unsigned(magnitude(digits, 9223372036854775808)?),
-        None => Some(magnitude(word, 9223372036854775807)? as i64),
+        Some(digits) => 0i64.checked_sub_unsigned(magnitude(digits, MOST_BELOW_ZERO)?),
+        None => Some(magnitude(word, MOST)? as i64),
     }
 }
 
@@ -67,6 +73,7 @@ fn digit(d: u64) -> u8
 }
 
 // Writes the number in decimal from `at` on, and answers where it ends: the digits of its tenth part, and the last digit.
+// By hand, since its clause asks for the digits at a place of a lent slice, and `to_string` has a heap.
 pub fn write_u64(out: &mut [u8], at: usize, x: u64) -> usize
     requires { at + length (digits_of x) ≤ length out.old }
     ensures { (result ≡ at + length (digits_of x)) × (out.new ≡ sets out.old at (digits_of x)) }

@@ -1,4 +1,5 @@
 pub mod Items
+pub mod AllLaws
 pub mod AscendingLaws
 pub mod HalvingLaws
 pub mod MergingLaws

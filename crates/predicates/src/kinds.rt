@@ -76,34 +76,34 @@ impl NullOperator {
 }
 
 impl PredicateKind {
-    // The kind's number in a rule sheet.
+    // The kind's number in a rule sheet. It is public and stays a method beside `kind_of`.
     pub fn number(self) -> u8
         ensures { result ≡ number_of self }
     {
         match self {
             PredicateKind::Variable => 10,
             PredicateKind::NegatedVariable => 11,
-            PredicateKind::Set(o) => match o {
+            PredicateKind::Set(operator) => match operator {
                 SetOperator::In => 20,
                 SetOperator::NotIn => 21,
             },
-            PredicateKind::Comparison(o) => match o {
+            PredicateKind::Comparison(operator) => match operator {
                 ComparisonOperator::LessThan => 30,
                 ComparisonOperator::LessThanEqual => 31,
                 ComparisonOperator::GreaterThanEqual => 32,
                 ComparisonOperator::GreaterThan => 33,
             },
-            PredicateKind::Equality(o) => match o {
+            PredicateKind::Equality(operator) => match operator {
                 EqualityOperator::Equal => 40,
                 EqualityOperator::NotEqual => 41,
             },
-            PredicateKind::List(o) => match o {
+            PredicateKind::List(operator) => match operator {
                 ListOperator::OneOf => 50,
                 ListOperator::NoneOf => 51,
                 ListOperator::AllOf => 52,
                 ListOperator::NotAllOf => 53,
             },
-            PredicateKind::Null(o) => match o {
+            PredicateKind::Null(operator) => match operator {
                 NullOperator::IsNull => 60,
                 NullOperator::IsNotNull => 61,
                 NullOperator::IsEmpty => 62,
@@ -119,11 +119,11 @@ impl PredicateKind {
         match self {
             PredicateKind::Variable => PredicateKind::NegatedVariable,
             PredicateKind::NegatedVariable => PredicateKind::Variable,
-            PredicateKind::Set(o) => PredicateKind::Set(o.negated()),
-            PredicateKind::Comparison(o) => PredicateKind::Comparison(o.negated()),
-            PredicateKind::Equality(o) => PredicateKind::Equality(o.negated()),
-            PredicateKind::List(o) => PredicateKind::List(o.negated()),
-            PredicateKind::Null(o) => PredicateKind::Null(o.negated()),
+            PredicateKind::Set(operator) => PredicateKind::Set(operator.negated()),
+            PredicateKind::Comparison(operator) => PredicateKind::Comparison(operator.negated()),
+            PredicateKind::Equality(operator) => PredicateKind::Equality(operator.negated()),
+            PredicateKind::List(operator) => PredicateKind::List(operator.negated()),
+            PredicateKind::Null(operator) => PredicateKind::Null(operator.negated()),
         }
     }
 
@@ -141,11 +141,12 @@ impl PredicateKind {
     pub fn cost(self, length: u32) -> u64
         ensures { result ≡ cost_of self length }
     {
-        self.element_cost() * (length as u64)
+        self.element_cost() * u64::from(length)
     }
 }
 
-// The kind of a number, and is not empty where no kind has it: no Option, since the contract speaks of every number.
+// The kind of a number in a rule sheet. A number that no kind has gives the kind "is not empty".
+// Public, and `kind_of` of specs/ speaks of every number, so it stays; a `TryFrom` beside it would have no caller.
 #[tactic(auto, unfolding(crate::specs::Kinds::kind_of, crate::specs::Kinds::numbered, crate::specs::Kinds::kinds))]
 pub fn kind_of(number: u8) -> PredicateKind
     ensures { result ≡ kind_of number }

@@ -61,8 +61,8 @@ pub enum PredicateKind {
     Null(NullOperator),
 }
 
-// What a predicate holds its attribute against. The elements of a list stand beside it, in the book.
-#[derive(Clone, Copy)]
+// What a predicate holds its attribute against. The elements of a list stand beside it, in the book. No `==`, since a decimal has none.
+#[derive(Clone, Copy, Debug)]
 pub enum Literal {
     Nothing,
     Integer(i64),

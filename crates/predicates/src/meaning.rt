@@ -18,13 +18,13 @@ use evaluation::Truth;
 use events::{AttributeValue, StringId};
 use std::cmp::Ordering;
 
-// What stands in a value or a literal that is no amount.
+// What stands in a value or a literal that is no amount: no Option, since the definitions `amount_in` and `amount_of` hold a zero there.
 const ZERO: Decimal = Decimal {
     number: 0,
     scale: 0,
 };
 
-// The literal of a tag, a number and a scale, as a book keeps them. The tag stays a number: the contract speaks of every number.
+// The literal of a tag, a number and a scale, as a book keeps them. The tag stays a number: `literal_from` speaks of every number.
 #[tactic(auto, unfolding(crate::specs::Meaning::literal_from))]
 pub fn literal_of(tag: u8, number: i64, scale: u8) -> Literal
     ensures { result ≡ literal_from tag number scale }
@@ -179,16 +179,16 @@ fn holds(
     match kind {
         PredicateKind::Variable => boolean_in(value),
         PredicateKind::NegatedVariable => !boolean_in(value),
-        PredicateKind::Set(o) => o.holds(amount_in(value).number, elements),
-        PredicateKind::Comparison(o) => o.holds(order(value, literal)),
-        PredicateKind::Equality(o) => o.holds(order(value, literal)),
-        PredicateKind::List(o) => o.holds(list, elements),
-        PredicateKind::Null(o) => o.holds(value, list),
+        PredicateKind::Set(operator) => operator.holds(amount_in(value).number, elements),
+        PredicateKind::Comparison(operator) => operator.holds(order(value, literal)),
+        PredicateKind::Equality(operator) => operator.holds(order(value, literal)),
+        PredicateKind::List(operator) => operator.holds(list, elements),
+        PredicateKind::Null(operator) => operator.holds(value, list),
     }
 }
 
 // What a predicate says of a value. The elements of the literal's list are a part of a book's bytes.
-// The literal and the value each come with a list beside them: a struct of the two would serve this call alone, and be no plainer.
+// The five stay parameters: `evaluate` is public, and a struct for `has_answer` and `holds` would be built here only to be taken apart.
 #[tactic(auto, unfolding(crate::specs::Meaning::evaluate_of))]
 pub fn evaluate(
     kind: PredicateKind,
@@ -203,9 +203,5 @@ pub fn evaluate(
     if !has_answer(kind, literal, value) {
         return Truth::Undefined;
     }
-    if holds(kind, literal, elements, value, list) {
-        Truth::True
-    } else {
-        Truth::False
-    }
+    Truth::from(holds(kind, literal, elements, value, list))
 }

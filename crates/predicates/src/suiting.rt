@@ -5,7 +5,7 @@ ghost use Rattle.predicates.specs.Suits.{tag_of, suits_of};
 use crate::{Literal, NullOperator, PredicateKind};
 use attributes::AttributeKind as Kind;
 
-// The literal's tag in a rule sheet.
+// The literal's tag in a rule sheet. No `From`, which would be no plainer: a literal holds other numbers, and `tag` says which one this is.
 pub fn tag(literal: Literal) -> u8
     ensures { result ≡ tag_of literal }
 {
@@ -20,7 +20,7 @@ pub fn tag(literal: Literal) -> u8
 }
 
 // Whether a literal, by its tag, and an attribute, by the number of its kind, suit the kind of predicate.
-// Both stay numbers: the contract speaks of every number, and a rule sheet may hold any.
+// Both stay numbers: the definition `suits_of` speaks of every number.
 #[tactic(auto, unfolding(crate::specs::Suits::pair))]
 pub fn suits(kind: PredicateKind, tag: u8, attribute: u8) -> bool
     ensures { result ≡ suits_of kind tag attribute }

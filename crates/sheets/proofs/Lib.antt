@@ -1,4 +1,3 @@
-pub mod AllLaws
 pub mod SignLaws
 pub mod AcceptedLaws
 pub mod AnswersLaws

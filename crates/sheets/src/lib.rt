@@ -33,8 +33,8 @@ pub enum Shape {
     Stands,
 }
 
-// An entry as it is handed on: the numbers of its predicate, the decimal in normal form, and where its list stands in the sheet. Kind and
-// tag stay numbers: a sheet and a book's bytes hold them so.
+// An entry as it is handed on: the numbers of its predicate, the decimal in normal form, and where its list stands in the sheet.
+// Kind, tag, start and length stay numbers: `entry_of` is a record of numbers, and `predicate_as` takes the list out of the sheet.
 #[derive(Clone, Copy)]
 pub struct Entry {
     pub attribute: usize,

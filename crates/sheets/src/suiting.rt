@@ -8,7 +8,7 @@ use super::{Shape, Sheet};
 use attributes::AttributeId;
 use error::Refusal;
 
-// The answer for a predicate by its attribute, kind and tag.
+// The answer for a predicate by its attribute, kind and tag. Both stay numbers, of a form that is accepted: `suit_answer` is over numbers.
 #[tactic(auto, using(crate::proofs::SheetTests::sheet_tests), unfolding(crate::specs::Suiting::suit_answer))]
 fn check_suits(attributes: &[u8], attribute: usize, kind: u8, tag: u8) -> Result<(), Refusal>
     requires { ReadyTable attributes.now }

@@ -7,9 +7,19 @@ ghost use Rattle.attributes.specs.Table.{is_between};
 ghost use Rattle.sheets.specs.Table.{word_limit, has_list, allowed, literal_fits, entry_fits};
 
 // Words are numbered from 1 to this.
-pub(crate) const WORD_LIMIT: usize = 65535;
+const WORD_LIMIT: usize = events::WORD_LIMIT as usize;
 
-// The tag of a list of words.
+// The tags: no literal, an integer, a decimal, a word, a list of integers and a list of words.
+const NOTHING: usize = 0;
+
+const INTEGER: usize = 1;
+
+const DECIMAL: usize = 2;
+
+const WORD: usize = 3;
+
+const INTEGERS: usize = 4;
+
 pub(crate) const WORDS: usize = 5;
 
 // May a predicate of this kind have this tag?
@@ -19,17 +29,17 @@ fn allowed_tag(kind: usize, tag: usize) -> bool
 {
     match (kind, tag) {
         // variable, negated variable
-        (10..=11, 0) => true,
+        (10..=11, NOTHING) => true,
         // in, not in
-        (20..=21, 4..=5) => true,
+        (20..=21, INTEGERS..=WORDS) => true,
         // <, <=, >=, >
-        (30..=33, 1..=2) => true,
+        (30..=33, INTEGER..=DECIMAL) => true,
         // =, <>
-        (40..=41, 1..=3) => true,
+        (40..=41, INTEGER..=WORD) => true,
         // one of, none of, all of, not all of
-        (50..=53, 4..=5) => true,
+        (50..=53, INTEGERS..=WORDS) => true,
         // is null, is not null, is empty, is not empty
-        (60..=63, 0) => true,
+        (60..=63, NOTHING) => true,
         _ => false,
     }
 }
@@ -40,15 +50,15 @@ fn literal_fits(tag: usize, x: usize, y: usize) -> bool
     ensures { result ≡ literal_fits tag x y }
 {
     match tag {
-        0 => x == 0 && y == 0,
-        1 => y == 0,
-        2 => y <= decimals::SCALE_LIMIT as usize,
-        3 => is_word(x) && y == 0,
+        NOTHING => x == 0 && y == 0,
+        INTEGER => y == 0,
+        DECIMAL => y <= usize::from(decimals::SCALE_LIMIT),
+        WORD => is_word(x) && y == 0,
         _ => true,
     }
 }
 
-// Is this the number of a word?
+// Is this the number of a word? A rule has no word 0, which an event may have: `events::all_words` is another test.
 pub(crate) fn is_word(x: usize) -> bool
     ensures { result ≡ is_between 1 x word_limit }
 {
@@ -61,7 +71,7 @@ pub(crate) fn entry_fits(kind: usize, attribute: usize, tag: usize, x: usize, y:
     ensures { result ≡ entry_fits kind attribute tag x y }
 {
     if is_operator(kind) {
-        return attribute == 0 && tag == 0 && x == 0 && y == 0;
+        return attribute == 0 && tag == NOTHING && x == 0 && y == 0;
     }
     allowed_tag(kind, tag) && literal_fits(tag, x, y)
 }
@@ -77,5 +87,5 @@ fn is_operator(kind: usize) -> bool
 pub(crate) fn has_list(tag: usize) -> bool
     ensures { result ≡ has_list tag }
 {
-    matches!(tag, 4..=5)
+    matches!(tag, INTEGERS..=WORDS)
 }

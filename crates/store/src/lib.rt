@@ -27,7 +27,8 @@ pub struct Limits {
 
 // A part. `start` and `length` are its run of child places or of list elements; `number` is the two's complement of a predicate's number.
 // `level`, `size` and `cost` are those of the part as a tree.
-// The kind stays a number: `get_record` reads any bytes and cannot fail, and its clause gives the byte itself.
+// Kind and tag stay numbers: `get_record` reads any bytes and cannot fail, and its clause gives the bytes themselves.
+// `start` and `length` stay numbers: a book is bytes, which lend no slice of numbers, and `record_at` gives the two as they stand.
 #[derive(Clone, Copy)]
 pub struct Record {
     pub kind: u8,
@@ -72,39 +73,41 @@ const ELEMENT_SIZE: usize = 8;
 const ENTRY_SIZE: usize = 2;
 
 // Where the tables begin whose place the limits decide, and how many bytes a book takes.
-fn parts_at(limits: Limits) -> usize
-    requires { Within limits }
-    ensures { result ≡ parts_at limits }
-{
-    RULES_AT + RULE_SIZE * limits.rules
-}
+impl Limits {
+    fn parts_at(self) -> usize
+        requires { Within self }
+        ensures { result ≡ parts_at self }
+    {
+        RULES_AT + RULE_SIZE * self.rules
+    }
 
-fn places_at(limits: Limits) -> usize
-    requires { Within limits }
-    ensures { result ≡ places_at limits }
-{
-    parts_at(limits) + RECORD_SIZE * limits.parts
-}
+    fn places_at(self) -> usize
+        requires { Within self }
+        ensures { result ≡ places_at self }
+    {
+        self.parts_at() + RECORD_SIZE * self.parts
+    }
 
-fn elements_at(limits: Limits) -> usize
-    requires { Within limits }
-    ensures { result ≡ elements_at limits }
-{
-    places_at(limits) + PLACE_SIZE * limits.places
-}
+    fn elements_at(self) -> usize
+        requires { Within self }
+        ensures { result ≡ elements_at self }
+    {
+        self.places_at() + PLACE_SIZE * self.places
+    }
 
-fn order_at(limits: Limits) -> usize
-    requires { Within limits }
-    ensures { result ≡ order_at limits }
-{
-    elements_at(limits) + ELEMENT_SIZE * limits.elements
-}
+    fn order_at(self) -> usize
+        requires { Within self }
+        ensures { result ≡ order_at self }
+    {
+        self.elements_at() + ELEMENT_SIZE * self.elements
+    }
 
-pub fn size_of(limits: Limits) -> usize
-    requires { Within limits }
-    ensures { result ≡ size_of limits }
-{
-    order_at(limits) + ENTRY_SIZE * limits.parts
+    pub fn size_of(self) -> usize
+        requires { Within self }
+        ensures { result ≡ size_of self }
+    {
+        self.order_at() + ENTRY_SIZE * self.parts
+    }
 }
 
 // What a book counts in its head.
@@ -173,7 +176,7 @@ pub fn get_record(bytes: &[u8], limits: Limits, i: usize) -> Record
     requires { Laid limits bytes.now × (i < limits.parts) }
     ensures { result ≡ record_at limits bytes.now i }
 {
-    let at = parts_at(limits) + RECORD_SIZE * i;
+    let at = limits.parts_at() + RECORD_SIZE * i;
     Record {
         kind: u8::read(bytes, at),
         attribute: u8::read(bytes, at + 1),
@@ -215,7 +218,7 @@ pub fn put_record(bytes: &mut [u8], limits: Limits, i: usize, content: Record)
     requires { Laid limits bytes.old × (i < limits.parts) }
     ensures { bytes.new ≡ put_record limits bytes.old i content }
 {
-    let at = parts_at(limits) + RECORD_SIZE * i;
+    let at = limits.parts_at() + RECORD_SIZE * i;
     put_front(bytes, at, content);
     put_back(bytes, at, content)
 }
@@ -226,14 +229,14 @@ pub fn get_place(bytes: &[u8], limits: Limits, k: usize) -> u16
     requires { Laid limits bytes.now × (k < limits.places) }
     ensures { result ≡ place_at limits bytes.now k }
 {
-    u16::read(bytes, places_at(limits) + PLACE_SIZE * k)
+    u16::read(bytes, limits.places_at() + PLACE_SIZE * k)
 }
 
 pub fn put_place(bytes: &mut [u8], limits: Limits, k: usize, child: u16)
     requires { Laid limits bytes.old × (k < limits.places) }
     ensures { bytes.new ≡ put_place limits bytes.old k child }
 {
-    child.write(bytes, places_at(limits) + PLACE_SIZE * k)
+    child.write(bytes, limits.places_at() + PLACE_SIZE * k)
 }
 
 // A list element, as its two's complement.
@@ -241,14 +244,14 @@ pub fn get_element(bytes: &[u8], limits: Limits, k: usize) -> u64
     requires { Laid limits bytes.now × (k < limits.elements) }
     ensures { result ≡ element_word limits bytes.now k }
 {
-    u64::read(bytes, elements_at(limits) + ELEMENT_SIZE * k)
+    u64::read(bytes, limits.elements_at() + ELEMENT_SIZE * k)
 }
 
 pub fn put_element(bytes: &mut [u8], limits: Limits, k: usize, element: u64)
     requires { Laid limits bytes.old × (k < limits.elements) }
     ensures { bytes.new ≡ put_element limits bytes.old k element }
 {
-    element.write(bytes, elements_at(limits) + ELEMENT_SIZE * k)
+    element.write(bytes, limits.elements_at() + ELEMENT_SIZE * k)
 }
 
 // The bytes of a whole list, as a part of the book.
@@ -256,7 +259,7 @@ pub fn elements_of(bytes: &[u8], limits: Limits, start: usize, count: usize) -> 
     requires { Laid limits bytes.now × (start + count ≤ limits.elements) }
     ensures { result.now ≡ take (8 * count) (drop (elements_at limits + 8 * start) bytes.now) }
 {
-    let from = elements_at(limits) + ELEMENT_SIZE * start;
+    let from = limits.elements_at() + ELEMENT_SIZE * start;
     let to = from + ELEMENT_SIZE * count;
     &bytes[from..to]
 }
@@ -266,18 +269,19 @@ pub fn get_entry(bytes: &[u8], limits: Limits, k: usize) -> u16
     requires { Laid limits bytes.now × (k < limits.parts) }
     ensures { result ≡ entry_at limits bytes.now k }
 {
-    u16::read(bytes, order_at(limits) + ENTRY_SIZE * k)
+    u16::read(bytes, limits.order_at() + ENTRY_SIZE * k)
 }
 
 pub fn put_entry(bytes: &mut [u8], limits: Limits, k: usize, part: u16)
     requires { Laid limits bytes.old × (k < limits.parts) }
     ensures { bytes.new ≡ put_entry limits bytes.old k part }
 {
-    part.write(bytes, order_at(limits) + ENTRY_SIZE * k)
+    part.write(bytes, limits.order_at() + ENTRY_SIZE * k)
 }
 
 // What the order of two parts looks at first: the kind, the first four bytes as one number, the number, and the run of child places or of
 // list elements.
+// The kind stays a number here too: `get_head` reads any bytes and cannot fail, and `head_at` gives the byte itself.
 #[derive(Clone, Copy)]
 pub struct Head {
     pub kind: u8,
@@ -291,12 +295,12 @@ pub fn get_head(bytes: &[u8], limits: Limits, i: usize) -> Head
     requires { Laid limits bytes.now × (i < limits.parts) }
     ensures { result ≡ head_at limits bytes.now i }
 {
-    let at = parts_at(limits) + RECORD_SIZE * i;
+    let at = limits.parts_at() + RECORD_SIZE * i;
     Head {
         kind: u8::read(bytes, at),
         first: u32::read(bytes, at),
         number: u64::read(bytes, at + 16),
-        length: u16::read(bytes, at + 6) as usize,
+        length: usize::from(u16::read(bytes, at + 6)),
         start: u32::read(bytes, at + 8) as usize,
     }
 }

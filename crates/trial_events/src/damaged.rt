@@ -1,10 +1,11 @@
 // Events that do not suit the table, each with one fault; and faults that are not judged.
-use attributes::AttributeTable;
+use crate::Trial;
 use events::Event;
 use filling::Reading;
 use std::io;
 
-// What stands at the place of an attribute, whatever the table says of it: the attribute's number, a kind's, a number, a scale and a length.
+// What stands at the place of an attribute, whatever the table says of it: the attribute's number, a kind's, a number, a scale and a
+// length.
 type Place = (usize, u8, i64, u8, usize);
 
 const SCALARS: [Place; 8] = [
@@ -46,62 +47,62 @@ const ELEMENTS: [(usize, i64); 7] = [
     (3, 65536),
 ];
 
-// Whether the event suits, and the answers to a reading that is right and to one of no attribute.
-fn judged(rt: &impl Print, table: AttributeTable, event: &Event) -> io::Result<()> {
-    let suits = if events::suits(table, event) {
-        "yes"
-    } else {
-        "no"
-    };
-    let right = filling::fill(table, *event, b"wind", Reading::Integer(7), &[]);
-    let wrong = filling::fill(table, *event, b"wand", Reading::Integer(7), &[]);
-    println!(rt; " {suits} {} {}", right.number(), wrong.number())
-}
-
-fn counts(rt: &impl Print, table: AttributeTable, event: &Event) -> io::Result<()> {
-    for count in [5, 7, usize::MAX] {
-        judged(rt, table, &Event { count, ..*event })?;
+impl<'a, P: Print> Trial<'a, P> {
+    // Whether the event suits, and the answers to a reading that is right and to one of no attribute.
+    fn judged(&self, event: &Event) -> io::Result<()> {
+        let suits = if events::suits(self.table, event) {
+            "yes"
+        } else {
+            "no"
+        };
+        let right = filling::fill(self.table, *event, b"wind", Reading::Integer(7), &[]);
+        let wrong = filling::fill(self.table, *event, b"wand", Reading::Integer(7), &[]);
+        println!(self.rt; " {suits} {} {}", right.number(), wrong.number())
     }
-    Ok(())
-}
 
-fn places(
-    rt: &impl Print,
-    table: AttributeTable,
-    event: &Event,
-    places: &[Place],
-) -> io::Result<()> {
-    for (i, kind, number, scale, length) in places {
-        if *i < attributes::ATTRIBUTE_LIMIT {
-            let mut next = *event;
-            next.kinds[*i] = *kind;
-            next.numbers[*i] = *number;
-            next.scales[*i] = *scale;
-            next.lengths[*i] = *length;
-            judged(rt, table, &next)?;
+    fn counts(&self) -> io::Result<()> {
+        for count in [5, 7, usize::MAX] {
+            self.judged(&Event {
+                count,
+                ..self.event
+            })?;
         }
+        Ok(())
     }
-    Ok(())
-}
 
-fn elements(rt: &impl Print, table: AttributeTable, event: &Event) -> io::Result<()> {
-    for (k, x) in ELEMENTS {
-        if k < lists::LIST_LIMIT {
-            let mut next = *event;
-            next.kinds[5] = 6;
-            next.lengths[5] = 3;
-            next.lists[lists::LIST_LIMIT * 5 + k] = x;
-            judged(rt, table, &next)?;
+    fn places(&self, places: &[Place]) -> io::Result<()> {
+        for (i, kind, number, scale, length) in places {
+            if *i < attributes::ATTRIBUTE_LIMIT {
+                let mut next = self.event;
+                next.kinds[*i] = *kind;
+                next.numbers[*i] = *number;
+                next.scales[*i] = *scale;
+                next.lengths[*i] = *length;
+                self.judged(&next)?;
+            }
         }
+        Ok(())
     }
-    Ok(())
-}
 
-pub fn run(rt: &impl Print, table: AttributeTable, event: &Event) -> io::Result<()> {
-    judged(rt, table, event)?;
-    counts(rt, table, event)?;
-    places(rt, table, event, &SCALARS)?;
-    places(rt, table, event, &KINDS)?;
-    places(rt, table, event, &LENGTHS)?;
-    elements(rt, table, event)
+    fn elements(&self) -> io::Result<()> {
+        for (k, x) in ELEMENTS {
+            if k < lists::LIST_LIMIT {
+                let mut next = self.event;
+                next.kinds[5] = 6;
+                next.lengths[5] = 3;
+                next.lists[lists::LIST_LIMIT * 5 + k] = x;
+                self.judged(&next)?;
+            }
+        }
+        Ok(())
+    }
+
+    pub fn damaged(&self) -> io::Result<()> {
+        self.judged(&self.event)?;
+        self.counts()?;
+        self.places(&SCALARS)?;
+        self.places(&KINDS)?;
+        self.places(&LENGTHS)?;
+        self.elements()
+    }
 }

@@ -1,7 +1,6 @@
 // Readings of every kind for every attribute, at their limits and past them; unknown names; lists that are not in order.
-use crate::showing;
-use attributes::AttributeTable;
-use events::{Event, StringId};
+use crate::Trial;
+use events::StringId;
 use filling::Reading;
 use std::io;
 
@@ -22,89 +21,71 @@ const READINGS: [Reading; 7] = [
     Reading::StringList,
 ];
 
-// Hands in a reading, and writes the name, the answer and the event after.
-fn given(
-    rt: &impl Print,
-    table: AttributeTable,
-    event: &mut Event,
-    name: &[u8],
-    reading: Reading,
-    list: &[i64],
-) -> io::Result<()> {
-    let filled = filling::fill(table, *event, name, reading, list);
-    *event = filled.event;
-    showing::answered(rt, name, &filled)
-}
-
-// Readings of every kind for one attribute.
-fn every_kind(
-    rt: &impl Print,
-    table: AttributeTable,
-    event: &mut Event,
-    name: &[u8],
-) -> io::Result<()> {
-    for reading in READINGS {
-        given(rt, table, event, name, reading, &[9, 3, 9, 0, 3])?;
+impl<'a, P: Print> Trial<'a, P> {
+    // Hands in a reading, and writes the name, the answer and the event after.
+    fn given(&mut self, name: &[u8], reading: Reading, list: &[i64]) -> io::Result<()> {
+        let filled = filling::fill(self.table, self.event, name, reading, list);
+        self.go_on(name, filled)
     }
-    Ok(())
-}
 
-fn kinds(rt: &impl Print, table: AttributeTable, event: &mut Event) -> io::Result<()> {
-    every_kind(rt, table, event, b"humidity")?;
-    every_kind(rt, table, event, b"rain")?;
-    every_kind(rt, table, event, b"wind")?;
-    every_kind(rt, table, event, b"site")?;
-    every_kind(rt, table, event, b"flags")?;
-    every_kind(rt, table, event, b"sky")
-}
+    // Readings of every kind for one attribute.
+    fn every_kind(&mut self, name: &[u8]) -> io::Result<()> {
+        for reading in READINGS {
+            self.given(name, reading, &[9, 3, 9, 0, 3])?;
+        }
+        Ok(())
+    }
 
-fn scales(rt: &impl Print, table: AttributeTable, event: &mut Event) -> io::Result<()> {
-    given(rt, table, event, b"humidity", Reading::Float(85, 0), &[])?;
-    given(rt, table, event, b"humidity", Reading::Float(-1, 28), &[])?;
-    given(rt, table, event, b"humidity", Reading::Float(1, 29), &[])?;
-    given(rt, table, event, b"humidity", Reading::Float(1, -1), &[])?;
-    given(rt, table, event, b"rain", Reading::Float(1, 29), &[])
-}
+    fn kinds(&mut self) -> io::Result<()> {
+        self.every_kind(b"humidity")?;
+        self.every_kind(b"rain")?;
+        self.every_kind(b"wind")?;
+        self.every_kind(b"site")?;
+        self.every_kind(b"flags")?;
+        self.every_kind(b"sky")
+    }
 
-fn words(rt: &impl Print, table: AttributeTable, event: &mut Event) -> io::Result<()> {
-    given(rt, table, event, b"site", Reading::String(StringId(0)), &[])?;
-    let past = Reading::String(StringId(65536));
-    given(rt, table, event, b"site", past, &[])?;
-    let negative = Reading::String(StringId(-1));
-    given(rt, table, event, b"site", negative, &[])?;
-    given(rt, table, event, b"sky", Reading::StringList, &[65535, 0])?;
-    given(rt, table, event, b"sky", Reading::StringList, &[65536, 0])?;
-    given(rt, table, event, b"sky", Reading::StringList, &[1, -1])
-}
+    fn scales(&mut self) -> io::Result<()> {
+        self.given(b"humidity", Reading::Float(85, 0), &[])?;
+        self.given(b"humidity", Reading::Float(-1, 28), &[])?;
+        self.given(b"humidity", Reading::Float(1, 29), &[])?;
+        self.given(b"humidity", Reading::Float(1, -1), &[])?;
+        self.given(b"rain", Reading::Float(1, 29), &[])
+    }
 
-fn lengths(rt: &impl Print, table: AttributeTable, event: &mut Event) -> io::Result<()> {
-    given(rt, table, event, b"flags", Reading::IntegerList, &[])?;
-    given(
-        rt,
-        table,
-        event,
-        b"flags",
-        Reading::IntegerList,
-        &LONG[..32],
-    )?;
-    given(rt, table, event, b"flags", Reading::IntegerList, &LONG)?;
-    given(rt, table, event, b"sky", Reading::StringList, &LONG[1..])?;
-    given(rt, table, event, b"sky", Reading::StringList, &[7; 33])?;
-    given(rt, table, event, b"wind", Reading::Integer(4), &LONG)
-}
+    fn words(&mut self) -> io::Result<()> {
+        self.given(b"site", Reading::String(StringId(0)), &[])?;
+        let past = Reading::String(StringId(65536));
+        self.given(b"site", past, &[])?;
+        let negative = Reading::String(StringId(-1));
+        self.given(b"site", negative, &[])?;
+        self.given(b"sky", Reading::StringList, &[65535, 0])?;
+        self.given(b"sky", Reading::StringList, &[65536, 0])?;
+        self.given(b"sky", Reading::StringList, &[1, -1])
+    }
 
-fn names(rt: &impl Print, table: AttributeTable, event: &mut Event) -> io::Result<()> {
-    given(rt, table, event, b"", Reading::Integer(1), &[])?;
-    let long = b"windwindwindwindwindwindwindwindw";
-    given(rt, table, event, long, Reading::Integer(1), &[])?;
-    given(rt, table, event, b"win", Reading::Float(1, 29), &[])?;
-    given(rt, table, event, b"wind ", Reading::Undefined, &[])
-}
+    fn lengths(&mut self) -> io::Result<()> {
+        self.given(b"flags", Reading::IntegerList, &[])?;
+        self.given(b"flags", Reading::IntegerList, &LONG[..32])?;
+        self.given(b"flags", Reading::IntegerList, &LONG)?;
+        self.given(b"sky", Reading::StringList, &LONG[1..])?;
+        self.given(b"sky", Reading::StringList, &[7; 33])?;
+        self.given(b"wind", Reading::Integer(4), &LONG)
+    }
 
-pub fn run(rt: &impl Print, table: AttributeTable, event: &mut Event) -> io::Result<()> {
-    kinds(rt, table, event)?;
-    scales(rt, table, event)?;
-    words(rt, table, event)?;
-    lengths(rt, table, event)?;
-    names(rt, table, event)
+    fn names(&mut self) -> io::Result<()> {
+        self.given(b"", Reading::Integer(1), &[])?;
+        let long = b"windwindwindwindwindwindwindwindw";
+        self.given(long, Reading::Integer(1), &[])?;
+        self.given(b"win", Reading::Float(1, 29), &[])?;
+        self.given(b"wind ", Reading::Undefined, &[])
+    }
+
+    pub fn filled(&mut self) -> io::Result<()> {
+        self.kinds()?;
+        self.scales()?;
+        self.words()?;
+        self.lengths()?;
+        self.names()
+    }
 }

@@ -9,6 +9,8 @@ mod filled;
 mod showing;
 
 use attributes::{AttributeKind, AttributeTable, Definition, NAME_LIMIT, TABLE_SIZE};
+use events::Event;
+use filling::Filled;
 use std::io;
 
 // Defines one attribute of the trials.
@@ -42,19 +44,42 @@ fn trial_table(rt: &impl Print, table: &mut [u8; TABLE_SIZE]) -> io::Result<()> 
     println!(rt)
 }
 
-fn trials(rt: &impl Print, table: AttributeTable) -> io::Result<()> {
-    let mut event = events::fresh(6);
-    println!(rt; "{}", showing::Shown(&event))?;
-    filled::run(rt, table, &mut event)?;
-    dated::run(rt, table, &mut event)?;
-    damaged::run(rt, table, &event)
+// What the trials go through with: where they write, the table, and the event as it stands.
+#[derive(Drop)]
+pub struct Trial<'a, P> {
+    pub rt: &'a P,
+    pub table: AttributeTable<'a>,
+    pub event: Event,
+}
+
+impl<'a, P: Print> Trial<'a, P> {
+    fn run(&mut self) -> io::Result<()> {
+        println!(self.rt; "{}", showing::Shown(&self.event))?;
+        self.filled()?;
+        self.dated()?;
+        self.damaged()
+    }
+
+    // Goes on with the event after a reading, and writes the name, the answer and the event.
+    fn go_on(&mut self, name: &[u8], filled: Filled) -> io::Result<()> {
+        self.event = filled.event;
+        showing::answered(self.rt, name, &filled)
+    }
 }
 
 fn main(rt: HostRuntime) -> io::Result<()> {
     let mut bytes = [0; TABLE_SIZE];
     trial_table(&rt, &mut bytes)?;
     match AttributeTable::new(&bytes) {
-        Some(table) => trials(&rt, table),
+        Some(table) => {
+            let event = events::fresh(6);
+            Trial {
+                rt: &rt,
+                table,
+                event,
+            }
+            .run()
+        }
         None => println!(rt; "damaged"),
     }
 }

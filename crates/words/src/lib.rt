@@ -33,7 +33,7 @@ fn part<const N: usize>(bytes: &[u8], at: usize) -> [u8; N]
     requires { at + N ≤ length bytes.now }
     ensures { result ≡ take N (drop at bytes.now) }
 {
-    *bytes[at..].first_chunk().unwrap()
+    *bytes[at..at + N].first_chunk().unwrap()
 }
 
 impl Word for u8 {
@@ -56,6 +56,8 @@ impl Word for u8 {
     ghost back = { λ u f. refl };
 }
 
+// The impls of u16, u32 and u64 stay three: an impl by macro is refused, and one generic over them would need a trait of their
+// `from_le_bytes` and `to_le_bytes`, which is `Word` once more.
 impl Word for u16 {
     ghost size = { 2 };
 

@@ -1,7 +1,7 @@
 -- `attributes::define` meets its contract: each way out is a case of the outcome. Assumes nothing.
-use Rattle.std.proofs.Common.{ℕ, ap, sym, ◌∙◌, arith, rules}
+use Rattle.std.proofs.Common.{ap, sym, ◌∙◌, arith, rules}
 use Rattle.attributes.specs.Table.{name_limit}
-use Rattle.attributes.specs.Definitions.{name_of, added, outcome}
+use Rattle.attributes.specs.Definitions.{outcome}
 use Rattle.attributes.proofs.RangeLaws.{contained}
 use Rattle.attributes.proofs.NameLaws.{long_refused, twice_refused, new_taken}
 use Rattle.attributes.proofs.define.Goals as goal
@@ -26,7 +26,6 @@ pub returns : goal.returns
 returns c = let a = c.args in
     let n = c.new.ensures in
     let told = contained 1 a.definition.length name_limit _ _ _ _ n.start n.end n.exhausted c.contains.ensures.value in
-    let done = new_taken a.table.now a.definition _ told c.if-not-contains.false c.len.result c.len.ensures (omega arith)
-    c.by_name.result c.by_name.ensures (sym c.is_some.ensures ∙ c.if-is_some.false) in
-    let kind = ap (λ (k : ℕ). added a.table.now k (name_of a.definition)) c.from.ensures in
-    ap (outcome 0) (c.write_record.ensures ∙ kind) ∙ done
+    ap (outcome 0) c.write_record.ensures
+    ∙ new_taken a.table.now a.definition _ told c.if-not-contains.false c.len.result c.len.ensures (omega arith)
+    c.by_name.result c.by_name.ensures (sym c.is_some.ensures ∙ c.if-is_some.false)

@@ -1,15 +1,9 @@
 -- `changes::write_children` meets its contract. Assumes nothing.
-use mathlib.Core.Path.{refl}
 use Prim.Native.Nat.{ℕ, ◌+◌, ◌*◌}
 use lib.ListN.{get_or}
-use Rattle.words.specs.Run.{wrote}
 use Rattle.words.proofs.RunLaws.{wrote_more}
 use Rattle.store.specs.Layout.{places_at}
 use Rattle.changes.proofs.write_children.Goals as goal
-
-pub loop-k-init : goal.loop-k-init
-unfolding wrote
-loop-k-init c = refl
 
 pub loop-k-preserved : goal.loop-k-preserved
 loop-k-preserved c =

@@ -6,12 +6,12 @@ use Rattle.decimals.specs.Normal.{is_normal}
 use Rattle.decimals.proofs.SignLaws.{rem_bits}
 use Rattle.decimals.proofs.is_normal.Goals as goal
 
-pub returns-then-d-eq0 : goal.returns-then-d-eq0
+pub returns-then-decimal-eq0 : goal.returns-then-decimal-eq0
 unfolding is_normal
-returns-then-d-eq0 c = rw (eq-eqb c.args.d.scale 0 c.if-d-eq0.true)
+returns-then-decimal-eq0 c = rw (eq-eqb c.args.decimal.scale 0 c.if-decimal-eq0.true)
 
-pub returns-else-d-eq0 : goal.returns-else-d-eq0
+pub returns-else-decimal-eq0 : goal.returns-else-decimal-eq0
 unfolding is_normal
-returns-else-d-eq0 c =
-    let d = c.args.d in
-    rw (rem_bits d.number (omega arith), ne_eqb d.scale 0 c.if-d-eq0.false)
+returns-else-decimal-eq0 c =
+    let d = c.args.decimal in
+    rw (rem_bits d.number (omega arith), ne_eqb d.scale 0 c.if-decimal-eq0.false)

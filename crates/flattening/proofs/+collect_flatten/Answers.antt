@@ -24,7 +24,7 @@ pub collect-collect-requires : goal.collect-collect-requires
 collect-collect-requires t c =
     let a = c.args in
     let r = ready_room _ _ _ _ _ c.requires in
-    let l = lag_most a.parent (not a.negate) (shape_of (kind_of a.sheet.first a.sheet.numbers.now (a.i + 1))) in
+    let l = lag_most a.parent (not a.negate) (shape_of (kind_of a.sheet.now.first a.sheet.now.numbers.now (a.i + 1))) in
     (omega arith, ready_not _ _ _ _ _ c.requires (sym c.in-Negates.ensures))
 
 pub collect-returns-in-Negates : goal.collect-returns-in-Negates
@@ -37,19 +37,19 @@ pub collect-collect-left-requires : goal.collect-collect-left-requires
 collect-collect-left-requires t c =
     let a = c.args in
     let r = ready_room _ _ _ _ _ c.requires in
-    let l = lag_most a.parent a.negate (shape_of (kind_of a.sheet.first a.sheet.numbers.now (a.i + 1))) in
+    let l = lag_most a.parent a.negate (shape_of (kind_of a.sheet.now.first a.sheet.now.numbers.now (a.i + 1))) in
     (omega arith, ready_left _ _ _ _ _ c.requires _ (sym c.in-Joins.ensures))
 
 pub collect-collect-right-requires : goal.collect-collect-right-requires
 collect-collect-right-requires t c =
     let a = c.args in
-    let s = a.sheet.numbers.now in
+    let s = a.sheet.now.numbers.now in
     let d = c.collect-left in
     let r = ready_room _ _ _ _ _ c.requires in
     let m = ready_right _ _ _ _ _ c.requires _ (sym c.in-Joins.ensures) _ _ _ _ d.result d.ensures in
     let n = m.1 in
-    let l = lag_most a.parent a.negate (shape_of (kind_of a.sheet.first s d.result.next)) in
-    (omega arith, subst⁻¹ (λ (k : ℕ). Ready a.sheet.first s d.result.next d.result.at k) d.auto.out m.0)
+    let l = lag_most a.parent a.negate (shape_of (kind_of a.sheet.now.first s d.result.next)) in
+    (omega arith, subst⁻¹ (λ (k : ℕ). Ready a.sheet.now.first s d.result.next d.result.at k) d.auto.out m.0)
 
 pub collect-overflow_add-result : goal.collect-overflow_add-result
 collect-overflow_add-result t c =
@@ -70,7 +70,7 @@ collect-returns-in-Joins t c =
 pub collect-flatten-requires : goal.collect-flatten-requires
 collect-flatten-requires t c =
     let a = c.args in
-    let shape = shape_of (kind_of a.sheet.first a.sheet.numbers.now a.i) in
+    let shape = shape_of (kind_of a.sheet.now.first a.sheet.now.numbers.now a.i) in
     let other : Other a.parent a.negate shape = elim c.in_default.branch [
       | collect-in_default-via-in-Joins+else-eq w ↦
           let unlike : ¬ (w.under.result ≡ a.parent) = search rules in
@@ -83,7 +83,7 @@ collect-flatten-requires t c =
 pub collect-returns-in_default : goal.collect-returns-in_default
 collect-returns-in_default t c =
     let a = c.args in
-    let other : Other a.parent a.negate (shape_of (kind_of a.sheet.first a.sheet.numbers.now a.i)) = elim c.in_default.branch [
+    let other : Other a.parent a.negate (shape_of (kind_of a.sheet.now.first a.sheet.now.numbers.now a.i)) = elim c.in_default.branch [
       | collect-in_default-via-in-Joins+else-eq w ↦
           let unlike : ¬ (w.under.result ≡ a.parent) = search rules in
           subst (Other a.parent a.negate) w.in-Joins.ensures (λ e. unlike (w.under.ensures ∙ sym e))

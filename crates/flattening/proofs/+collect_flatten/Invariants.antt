@@ -9,7 +9,7 @@ use Rattle.flattening.proofs.+collect_flatten.Given as goal
 
 abbrev pub decreases-collect : goal.decreases-collect
 decreases-collect l =
-    let s = l.sheet.numbers.now in 3 * (length s - l.i) + lag l.parent l.negate (shape_of (kind_of l.sheet.first s l.i))
+    let s = l.sheet.now.numbers.now in 3 * (length s - l.i) + lag l.parent l.negate (shape_of (kind_of l.sheet.now.first s l.i))
 
 abbrev pub decreases-flatten : goal.decreases-flatten
-decreases-flatten l = 3 * (length l.sheet.numbers.now - l.i) + 1
+decreases-flatten l = 3 * (length l.sheet.now.numbers.now - l.i) + 1

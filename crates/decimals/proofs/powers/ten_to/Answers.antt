@@ -21,4 +21,4 @@ right k x = eqb x (10 ^ k)
 
 pub returns : goal.returns
 unfolding tens right
-returns c = eqb→eq (get_or tens c.args.k 0) (10 ^ c.args.k) (at right tens tt c.args.k (search rules))
+returns c = rw c.from.ensures (eqb→eq (get_or tens c.args.k 0) (10 ^ c.args.k) (at right tens tt c.args.k (search rules)))

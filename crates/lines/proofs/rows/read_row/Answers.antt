@@ -1,9 +1,8 @@
 -- `lines::rows::read_row` meets its contract. Assumes nothing.
-use Rattle.std.proofs.Common.{rules, tests, ap, sym, ◌∙◌, arith, [], ◌∷◌, length-append, drop}
+use Rattle.std.proofs.Common.{rules, tests, sym, ◌∙◌, arith, [], ◌∷◌, length-append, drop}
 use lib.ListN.{length-set}
 use Rattle.std.proofs.lemmas.Iterator.Splits.{YieldsList-from_slice_split}
-use Rattle.std.proofs.lemmas.Iterator.Consumers.{YieldsList-turn, YieldsList-end}
-use Rattle.std.specs.Slice.Iter.{split_rest, split_done, split_callee}
+use Rattle.std.proofs.lemmas.Iterator.Consumers.{YieldsList-at}
 use mir.Syntax.{w64}
 use mir.ValLaws.{to_z-of_z}
 use Rattle.lines.specs.NumbersLaws.{number_fits}
@@ -22,16 +21,13 @@ returns-in_default c =
 
 pub returns-then-out-count : goal.returns-then-out-count
 returns-then-out-count c =
-    let h = c.in-Some.ensures.lookup.0 in
-    let it = c.into_iter-word-iterator.ensures.into_iter_gives in
-    let e = c.split-word-items.ensures in
     let l = c.loop-word in
-    let turn
-    = YieldsList-turn
-    (YieldsList-from_slice_split _ is_space c.in-Some.rest.now (ap split_rest it ∙ e.rest) (ap split_done it ∙ e.done)
-    (ap split_callee it ∙ e.closure) (λ x r q k. search (rules, tests)))
-    l.yielded _ l.yielded_by c.next.result _ c.in-Some-word.word c.in-Some-word.is c.next.ensures.steps in
-    let next = words_next c.args.line.now c.in-Some.rest.now c.args.at h.0 h.2 l.count _ _ l.invariant.passed turn in
+    let h = c.in-Some.ensures.lookup.0 in
+    let e = c.split-word-items.ensures in
+    let it = c.into_iter-word-iterator.ensures.into_iter_gives in
+    let next = words_next _ _ c.args.at h.0 h.2
+    (YieldsList-at it (YieldsList-from_slice_split _ is_space _ e.rest e.done e.closure (λ x r q k. search (rules, tests))))
+    l.yielded l.yielded_by l.count l.invariant.passed _ _ _ c.in-Some-word.is c.next.ensures.steps in
     let left = drop l.count (words_from c.args.line.now c.args.at) in (
       sym (l.invariant.row ∙ rw next (row_full _ l.count _ _ (omega (arith, l.invariant.same_room)))),
       sym (l.invariant.places ∙ places_full (leading left) l.out l.count c.if-out-count.true),
@@ -39,16 +35,13 @@ returns-then-out-count c =
 
 pub returns-in_err-out : goal.returns-in_err-out
 returns-in_err-out c =
-    let h = c.in-Some.ensures.lookup.0 in
-    let it = c.into_iter-word-iterator.ensures.into_iter_gives in
-    let e = c.split-word-items.ensures in
     let l = c.loop-word in
-    let turn
-    = YieldsList-turn
-    (YieldsList-from_slice_split _ is_space c.in-Some.rest.now (ap split_rest it ∙ e.rest) (ap split_done it ∙ e.done)
-    (ap split_callee it ∙ e.closure) (λ x r q k. search (rules, tests)))
-    l.yielded _ l.yielded_by c.next.result _ c.in-Some-word.word c.in-Some-word.is c.next.ensures.steps in
-    let next = words_next c.args.line.now c.in-Some.rest.now c.args.at h.0 h.2 l.count _ _ l.invariant.passed turn in
+    let h = c.in-Some.ensures.lookup.0 in
+    let e = c.split-word-items.ensures in
+    let it = c.into_iter-word-iterator.ensures.into_iter_gives in
+    let next = words_next _ _ c.args.at h.0 h.2
+    (YieldsList-at it (YieldsList-from_slice_split _ is_space _ e.rest e.done e.closure (λ x r q k. search (rules, tests))))
+    l.yielded l.yielded_by l.count l.invariant.passed _ _ _ c.in-Some-word.is c.next.ensures.steps in
     let read = sym c.read_i64.ensures ∙ c.in_err-out.was in (
       c.from_residual.ensures ∙ sym (l.invariant.row ∙ rw next (row_none _ l.count _ _ read)),
       sym (l.invariant.places ∙ rw next (places_none l.out l.count _ _ read)),
@@ -56,16 +49,13 @@ returns-in_err-out c =
 
 pub loop-word-preserved : goal.loop-word-preserved
 loop-word-preserved c =
-    let h = c.in-Some.ensures.lookup.0 in
-    let it = c.into_iter-word-iterator.ensures.into_iter_gives in
-    let e = c.split-word-items.ensures in
     let l = c.loop-word in
-    let turn
-    = YieldsList-turn
-    (YieldsList-from_slice_split _ is_space c.in-Some.rest.now (ap split_rest it ∙ e.rest) (ap split_done it ∙ e.done)
-    (ap split_callee it ∙ e.closure) (λ x r q k. search (rules, tests)))
-    l.yielded _ l.yielded_by c.next.result _ c.in-Some-word.word c.in-Some-word.is c.next.ensures.steps in
-    let next = words_next c.args.line.now c.in-Some.rest.now c.args.at h.0 h.2 l.count _ _ l.invariant.passed turn in
+    let h = c.in-Some.ensures.lookup.0 in
+    let e = c.split-word-items.ensures in
+    let it = c.into_iter-word-iterator.ensures.into_iter_gives in
+    let next = words_next _ _ c.args.at h.0 h.2
+    (YieldsList-at it (YieldsList-from_slice_split _ is_space _ e.rest e.done e.closure (λ x r q k. search (rules, tests))))
+    l.yielded l.yielded_by l.count l.invariant.passed _ _ _ c.in-Some-word.is c.next.ensures.steps in
     let read = sym c.read_i64.ensures ∙ c.in_ok-out.was in
     record {
       passed = omega (arith, l.invariant.passed, length-append l.yielded (c.in-Some-word.word ∷ []));
@@ -77,16 +67,13 @@ loop-word-preserved c =
 
 pub returns : goal.returns
 returns c =
-    let h = c.in-Some.ensures.lookup.0 in
-    let it = c.into_iter-word-iterator.ensures.into_iter_gives in
-    let e = c.split-word-items.ensures in
     let l = c.loop-word in
-    let end
-    = YieldsList-end
-    (YieldsList-from_slice_split _ is_space c.in-Some.rest.now (ap split_rest it ∙ e.rest) (ap split_done it ∙ e.done)
-    (ap split_callee it ∙ e.closure) (λ x r q k. search (rules, tests)))
-    l.yielded _ l.yielded_by c.next.result _ c.in-None.is c.next.ensures.steps in
-    let passed = words_passed c.args.line.now c.in-Some.rest.now c.args.at h.0 h.2 l.count _ l.invariant.passed end.1 in (
+    let h = c.in-Some.ensures.lookup.0 in
+    let e = c.split-word-items.ensures in
+    let it = c.into_iter-word-iterator.ensures.into_iter_gives in
+    let passed = words_passed _ _ c.args.at h.0 h.2
+    (YieldsList-at it (YieldsList-from_slice_split _ is_space _ e.rest e.done e.closure (λ x r q k. search (rules, tests))))
+    l.yielded l.yielded_by l.count l.invariant.passed _ _ c.in-None.is c.next.ensures.steps in (
       sym (l.invariant.row ∙ rw passed (row_done _ l.count (omega (arith, l.invariant.room)))),
       sym (l.invariant.places ∙ rw passed (places_done l.out l.count)),
     )

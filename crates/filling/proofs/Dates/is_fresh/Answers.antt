@@ -1,9 +1,9 @@
--- `filling::is_fresh` meets its contract. Assumes nothing.
+-- `filling::Dates::is_fresh` meets its contract. Assumes nothing.
 use Rattle.std.proofs.Common.{sym, ◌∙◌}
 use borrow.Author.Tests.{le-leb, lt-leb}
 use Rattle.lists.specs.AndLaws.{and_first, and_skip}
 use Rattle.filling.specs.Ages.{is_fresh}
-use Rattle.filling.proofs.is_fresh.Goals as goal
+use Rattle.filling.proofs.Dates.is_fresh.Goals as goal
 
 pub returns-then-saturating_sub-tolerance : goal.returns-then-saturating_sub-tolerance
 unfolding is_fresh
