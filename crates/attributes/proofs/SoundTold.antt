@@ -1,15 +1,12 @@
 -- What the code's tests of a table tell of its marks: of one attribute, and of all.
 -- Assumes nothing.
 use Rattle.std.proofs.Common.{◌≡◌, true, false, Bool, not, Option, None, Some, Result, Ok, Err, List, ℕ, ◌≤◌, ◌<◌, length}
-use Rattle.std.proofs.Common.{refl, sym, ap, ◌∙◌, ⊎_elim, true≢false, zero-add, arith}
-use Rattle.std.specs.Bool.{MatchBool}
-use Rattle.std.specs.List.{AllWithin, HoldsAt, range_with_len}
+use Rattle.std.proofs.Common.{refl, sym, ap, ◌∙◌, ⊎_elim, true≢false, arith}
 use Rattle.std.specs.Prelude.{is_ok}
 use Rattle.std.specs.Option.{is_some, is_none}
-use Rattle.std.proofs.lemmas.List.FromFn.{length-range_with_len, get_or-range_with_len}
 use borrow.Author.Tests.{eq-eqb, ne_eqb, le-leb, lt-leb}
-use Rattle.lists.specs.AndLaws.{and_first, and_second, and_skip, and_both}
-use Rattle.lists.specs.BelowLaws.{below_all, below_broken}
+use Rattle.lists.specs.AndLaws.{true_and, and_first, and_second, and_skip, and_both}
+use Rattle.lists.specs.Below.{all_below}
 use Rattle.attributes.specs.declared.AttributeId.{AttributeId}
 use Rattle.attributes.specs.declared.AttributeKind.{AttributeKind}
 use Rattle.attributes.specs.Kinds.{kind_count, IsKindOf}
@@ -64,16 +61,6 @@ module _ (t : List ℕ) where
   count_broken n e h = sym (and_first _ _ (and_second _ _ (lt-leb _ _ (rw e at h))))
 
   pub all_told : (n : ℕ) → n ≡ count_of t → length t ≡ table_size → n ≤ attribute_limit → (r : Bool)
-      → MatchBool r (AllWithin (λ i. sound_attribute t i ≡ true) (range_with_len 0 n) 0 (length (range_with_len 0 n)))
-      ((k : ℕ) × (k < length (range_with_len 0 n)) × HoldsAt (λ i. sound_attribute t i ≡ false) (range_with_len 0 n) k)
-      → r ≡ sound_table t
+      → r ≡ all_below (sound_attribute t) n → r ≡ sound_table t
   unfolding sound_table
-  all_told n e size few true h =
-      let each : (k : ℕ) → k < n → sound_attribute t k ≡ true =
-      λ k l. rw (get_or-range_with_len, zero-add) at (h k 0 (omega arith) (omega (arith, length-range_with_len 0 n))) in
-      sym (and_both _ _ (and_both _ _ (eq-eqb _ _ size) (le-leb _ _ (rw e at few)))
-      (below_all (sound_attribute t) (count_of t) (λ k l. each k (omega arith))))
-  all_told n e size few false h =
-      let l : h.0 < n = omega (arith, h.1, length-range_with_len 0 n) in
-      let broken : sound_attribute t h.0 ≡ false = rw (get_or-range_with_len, zero-add) at (h.2 0) in
-      sym (and_second _ _ (below_broken (sound_attribute t) h.0 (count_of t) (omega arith) broken))
+  all_told n e size few r told = rw (eq-eqb _ _ size, le-leb _ _ (rw e at few), true_and, true_and) (rw e at told)

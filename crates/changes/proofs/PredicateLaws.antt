@@ -62,7 +62,8 @@ module _ (limits : Limits) (b : List ℕ) (s : Runs limits b) (r : Record) (f : 
         places_low = λ k u. word_only reach 2 (places_at limits + 2 * k) (inl (omega (arith, s.counted.places)));
         elements_low = λ k u. signed_only reach (elements_at limits + 8 * k) (inl (omega arith));
         fits =
-            placed_fits f (omega (arith, room.elements, room.laid.within.elements)) (omega (arith, room.elements, room.laid.within.elements));
+            placed_fits f (omega (arith, room.elements, room.laid.within.elements))
+            (omega (arith, room.elements, room.laid.within.elements));
         places_most = s.counted.places;
         elements_most = room.elements;
         join = λ h. absurd (true≢false (sym h ∙ t));

@@ -32,6 +32,7 @@ pub enum Refusal {
 }
 
 impl Refusal {
+    // The refusal's number in the table: a method and no `From`, so that it has its name at the call, as `number` below has.
     pub fn number(self) -> u8
         ensures { result ≡ number (Refused self) }
     {

@@ -27,7 +27,7 @@ pub enum Operator {
     Or,
 }
 
-// Rows and columns stand in the order False, Undefined, True.
+// Rows and columns stand in the order False, Undefined, True. The scope's form: tables of three rows of three, that go by value.
 const AND: [[Truth; 3]; 3] = [
     [Truth::False, Truth::False, Truth::False],
     [Truth::False, Truth::Undefined, Truth::Undefined],
@@ -81,6 +81,7 @@ pub fn decider_of(operator: Operator) -> Truth
     }
 }
 
+// A function by value, as the scope has it, and no `impl Not`.
 pub fn not(a: Truth) -> Truth
     ensures { result ≡ not_of a }
 {
@@ -92,7 +93,6 @@ pub fn not(a: Truth) -> Truth
 }
 
 // The bits of a result byte, in the scope's form: three answers in two bits and a mark. A byte of 0 is a part never valued.
-// The results and the part stay parameters: a struct would have to be two, since `set_result` changes the bytes that the others read.
 const FAILED: u8 = 1;
 
 const SUCCESS: u8 = 2;
@@ -109,6 +109,7 @@ fn answer_bits(value: Truth) -> u8
     }
 }
 
+// The results and the part stay parameters, here and below: a struct would have to be two, since this changes what the others read.
 pub fn set_result(results: &mut [u8], part: usize, value: Truth)
     requires { part < length results.old }
     ensures { results.new ≡ set results.old part (result_byte value) }

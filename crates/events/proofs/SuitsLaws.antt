@@ -5,14 +5,12 @@
 --     place_iff, suits_iff                                                  the tests hold exactly where the facts do
 -- Assumes nothing.
 use Rattle.std.specs.Prelude.{◌≡◌, refl, Bool, true, false, ◌||◌, ◌⊎◌, ◌↔◌, List, ℕ, ◌≤◌, eqb, leb, ℤ, pos}
-use Rattle.std.proofs.Common.{◌<◌, length, sym, ◌∙◌, true≢false, zero-add, inl, inr, arith}
-use Rattle.std.specs.Bool.{MatchBool}
-use Rattle.std.specs.List.{AllWithin, HoldsAt, range_with_len}
-use Rattle.std.proofs.lemmas.List.FromFn.{length-range_with_len, get_or-range_with_len}
+use Rattle.std.proofs.Common.{sym, ◌∙◌, true≢false, inl, inr}
 use borrow.Author.Tests.{eqb-true, eq-eqb, ne_eqb, leb-true, le-leb}
 use Rattle.lists.specs.And.{◌and◌}
 use Rattle.lists.specs.AndLaws.{true_and, and_true, and_left, and_right, and_first, and_second, and_skip, and_both}
-use Rattle.lists.specs.BelowLaws.{below_each, below_all, below_broken}
+use Rattle.lists.specs.Below.{all_below}
+use Rattle.lists.specs.BelowLaws.{below_each, below_all}
 use Rattle.lists.specs.Sets.{ascends, list_limit}
 use Rattle.decimals.specs.Decimals.{scale_limit}
 use Rattle.attributes.specs.declared.AttributeKind.TheVariants.{Boolean, Float, String, StringList}
@@ -160,17 +158,9 @@ module _ (t : List ℕ) (e : Event) where
   unfolding suits_of
   count_differs n c d = ne_eqb _ _ d ∙ sym (and_first _ _ (ne_eqb _ _ (rw c at d)))
 
-  pub suits_told : e.count ≡ count_of t → (r : Bool)
-      → MatchBool r (AllWithin (λ i. suits_at t e i ≡ true) (range_with_len 0 e.count) 0 (length (range_with_len 0 e.count)))
-      ((k : ℕ) × (k < length (range_with_len 0 e.count)) × HoldsAt (λ i. suits_at t e i ≡ false) (range_with_len 0 e.count) k)
-      → r ≡ suits_of t e
+  pub suits_told : e.count ≡ count_of t → (r : Bool) → r ≡ all_below (suits_at t e) e.count → r ≡ suits_of t e
   unfolding suits_of
-  suits_told c true h =
-      sym (and_both _ _ (eq-eqb _ _ c) (below_all (suits_at t e) e.count
-      (λ k l. rw (get_or-range_with_len, zero-add) at (h k 0 (omega arith) (omega (arith, length-range_with_len 0 e.count))))))
-  suits_told c false h =
-      let l : h.0 < e.count = omega (arith, h.1, length-range_with_len 0 e.count) in
-      sym (and_second _ _ (below_broken (suits_at t e) h.0 e.count l (rw (get_or-range_with_len, zero-add) at (h.2 0))))
+  suits_told c r told = rw (eq-eqb _ _ c, true_and) told
 
 -- the cases of `place_suits`, one for each way out
 pub ruleset place_cases = (place_undefined, place_other, place_list, place_range)

@@ -27,7 +27,7 @@ pub const UNDEFINED: u8 = 0;
 #[derive(Clone, Copy, Debug, PartialEq, Eq)]
 pub struct StringId(pub i64);
 
-// What an event holds of an attribute. The elements of a list stand beside it, in the event's list store.
+// What an event holds of an attribute. The elements of a list stand beside it, in the event's list store. No `==`: a decimal has none.
 #[derive(Clone, Copy, Debug)]
 pub enum AttributeValue {
     Undefined,
@@ -91,7 +91,8 @@ pub fn kind_number(kind: Option<AttributeKind>) -> u8
     kind.map_or(UNDEFINED, u8::from)
 }
 
-// The value of a place, by the number of its kind. A number of no kind is undefined.
+// The value of a place, by the number of its kind. A number of no kind is undefined. Numbers, here and in what follows, for the reason that
+// `Event` gives: a caller may hand in any. They come one by one, as `Event` has them in arrays apart.
 #[tactic(auto, using(crate::proofs::WordsLaws::zero_bits), unfolding(crate::specs::Values::value_of))]
 fn value_of(kind: u8, number: i64, scale: u8) -> AttributeValue
     ensures { result ≡ value_of kind number scale }
@@ -145,7 +146,6 @@ impl Event {
 }
 
 // Does the number of a kind stand for a list?
-// The kind is a number here and in what follows, for the reason that `Event` gives: a caller may hand in any.
 #[tactic(auto, unfolding(crate::specs::Values::is_list))]
 fn is_list(kind: u8) -> bool
     ensures { result ≡ is_list kind }

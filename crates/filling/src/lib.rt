@@ -22,7 +22,7 @@ use lists::LIST_LIMIT;
 // What is handed in for an attribute. The elements of a list stand beside it, as in an event. It is no AttributeValue: a scale or a word
 // may be out of range, and is refused then.
 // Nor are the two one generic: they differ in what `Float` holds alone, and a parameter for it would stand in every definition of either.
-#[derive(Clone, Copy, Debug)]
+#[derive(Clone, Copy, Debug, PartialEq, Eq)]
 pub enum Reading {
     Undefined,
     Boolean(bool),
@@ -48,7 +48,8 @@ pub enum Setting {
     NotSet,
 }
 
-// What filling gives: the answer, and the event after, which a refusal hands back as it was.
+// What filling gives: the answer, and the event after, which a refusal hands back as it was. The event stays beside the answer, and not in
+// it: the scope has filling as a step by value.
 #[derive(Clone, Copy)]
 pub struct Filled {
     pub answer: Result<Setting, Refusal>,
@@ -116,7 +117,7 @@ fn write_row(lists: &mut [i64], i: usize, places: &[i64])
 }
 
 // Sets a value at a place that is no list.
-// The kind is a number here and in `set_list`: with an AttributeKind each case of `set_reading` would name its kind again, beside `kind`.
+// The kind is a number here and in `set_list`: the definitions `with_scalar` and `with_list` are over the number.
 fn set_scalar(event: &mut Event, i: usize, kind: u8, number: i64, scale: u8)
     requires { i < attribute_limit }
     ensures { event.new ≡ with_scalar event.old i kind number scale }
@@ -153,7 +154,7 @@ fn set_reading(event: &mut Event, i: usize, reading: Reading, list: &[i64])
     }
 }
 
-// Does a reading suit an attribute whose kind has the number `own`?
+// Does a reading suit an attribute whose kind has the number `own`? It stays a number, as `AttributeTable::by_id` gives it.
 fn of_kind(reading: Reading, own: u8) -> bool
     ensures { result ≡ of_kind reading own }
 {

@@ -18,6 +18,7 @@ pub struct Written {
 }
 
 // A flattened rule: its codes, and how many there are. The buffer with a count beside it is fixed memory: no rule is longer than a sheet.
+// A code stays a number, here and below: `codes_read` reads them back, and a rule goes on as codes.
 #[derive(Clone, Copy)]
 pub struct Optimized {
     pub codes: [u16; ENTRY_LIMIT],
@@ -34,7 +35,7 @@ fn under(operator: Operator, negate: bool) -> Operator
     }
 }
 
-// The code of the predicate in entry i. A code stays a number, here and below: `codes_read` reads them back, and a rule goes on as codes.
+// The code of the predicate in entry i.
 fn predicate_code(negate: bool, i: usize) -> u16
     requires { i < 128 }
     ensures { result ≡ predicate_code negate i }

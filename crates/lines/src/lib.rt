@@ -18,7 +18,7 @@ pub const WORD_LIMIT: usize = 64;
 // The most bytes of a line, its newline not counted.
 pub const LINE_LIMIT: usize = 65536;
 
-// The place of the first such byte, or the length where there is none.
+// The place of the first such byte, or the length where there is none: no Option, as the definition `place_of` is a number.
 fn place_of(bytes: &[u8], byte: u8) -> usize
     ensures { result ≡ place_of byte bytes.now }
 {

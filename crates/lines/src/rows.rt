@@ -12,7 +12,7 @@ pub fn read_row(line: &[u8], at: usize, out: &mut [i64]) -> Option<usize>
     ensures { (result ≡ row_from (length out.old) 0 (words_from line.now at))
         × (out.new ≡ sets out.old 0 (leading (words_from line.now at))) }
 {
-    // The count is the answer too, and `get_mut` and `iter_mut` tell only the length that a slice ends with, where the clause tells all.
+    // The count is the answer too. Tried with `get_mut`: the proof does not close, as it tells only the length that a slice ends with.
     let mut count = 0;
     let Some(rest) = line.get(at..) else {
         return Some(count);

@@ -5,7 +5,7 @@ ghost use Rattle.predicates.specs.Integers.{integers_of};
 use lists::Elements;
 use words::Word;
 
-const ELEMENT_SIZE: usize = 8;
+pub const ELEMENT_SIZE: usize = 8;
 
 #[derive(Clone, Copy)]
 pub struct Stored<'a>(pub &'a [u8]);

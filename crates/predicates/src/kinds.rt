@@ -14,6 +14,7 @@ const LOGARITHMIC_COST: u64 = 1;
 
 const LIST_COST: u64 = 2;
 
+// What says the opposite, for each operator: methods by value, as the scope has them, and no `impl Not`.
 impl SetOperator {
     fn negated(self) -> SetOperator
         ensures { result ≡ set_negated self }
@@ -76,7 +77,7 @@ impl NullOperator {
 }
 
 impl PredicateKind {
-    // The kind's number in a rule sheet. It is public and stays a method beside `kind_of`.
+    // The kind's number in a rule sheet: a method and no `From`, so that it has its name at the call.
     pub fn number(self) -> u8
         ensures { result ≡ number_of self }
     {

@@ -10,6 +10,7 @@ mod kinds;
 mod meaning;
 mod suiting;
 
+pub use elements::ELEMENT_SIZE;
 pub use kinds::kind_of;
 pub use meaning::{evaluate, literal_of};
 pub use suiting::suits;

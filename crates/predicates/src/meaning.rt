@@ -39,6 +39,7 @@ pub fn literal_of(tag: u8, number: i64, scale: u8) -> Literal
     }
 }
 
+// The boolean of a value, and false where it is none: no Option, since the definition `boolean_in` holds false there.
 fn boolean_in(value: AttributeValue) -> bool
     ensures { result ≡ boolean_in value }
 {

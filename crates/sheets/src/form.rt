@@ -24,14 +24,14 @@ impl Shape {
     }
 }
 
-// Is each element a word?
+// Is each element a word? Not `events::all_words`, for which 0 is one.
 fn all_words(elements: &[i64]) -> bool
     ensures { result ≡ all_words elements.now }
 {
     elements.iter().all(|x| table::is_word(natural(*x)))
 }
 
-// May these be the elements of a list of this tag?
+// May these be the elements of a list of this tag? The tag stays a number, since the sheet may hold any.
 #[tactic(auto, using(crate::proofs::SheetTests::sheet_tests), unfolding(crate::specs::Bodies::elements_fit))]
 fn elements_fit(tag: usize, elements: &[i64]) -> bool
     ensures { result ≡ elements_fit tag elements.now }

@@ -46,7 +46,7 @@ pub struct Entry {
     pub length: usize,
 }
 
-// A number of a sheet as a natural number; a negative one becomes a number that fits nowhere.
+// A number of a sheet as a natural number; a negative one becomes a number that fits nowhere, and no None: `natural_of` is a number.
 pub fn natural(x: i64) -> usize
     ensures { result ≡ natural_of x }
 {

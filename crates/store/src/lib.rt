@@ -68,7 +68,7 @@ const RECORD_SIZE: usize = 24;
 
 const PLACE_SIZE: usize = 2;
 
-const ELEMENT_SIZE: usize = 8;
+const ELEMENT_SIZE: usize = predicates::ELEMENT_SIZE;
 
 const ENTRY_SIZE: usize = 2;
 
@@ -111,7 +111,7 @@ impl Limits {
 }
 
 // What a book counts in its head.
-#[derive(Clone, Copy)]
+#[derive(Clone, Copy, Debug, PartialEq, Eq)]
 pub enum Count {
     Rules,
     Parts,

@@ -7,6 +7,7 @@ ghost use Rattle.predicates.specs.Meaning.{amount_in};
 use crate::writing::letter;
 use attributes::AttributeKind;
 use decimals::Decimal;
+use error::Refusal;
 use events::{AttributeValue, StringId};
 use predicates::{
     ComparisonOperator, EqualityOperator, ListOperator, NullOperator, PredicateKind, SetOperator,
@@ -43,7 +44,7 @@ const ATTRIBUTES: [AttributeKind; 6] = [
     AttributeKind::StringList,
 ];
 
-// The numbers of the literals by their tags: the integer 5, the decimal 8.5 and the word 7.
+// The numbers of the literals by their tags: the integer 5, the decimal 8.5 and the word 7. No table of literals: `literal_of` makes them.
 const NUMBERS: [i64; 6] = [0, 5, 85, 7, 0, 0];
 
 const SCALE: u8 = 1;
@@ -51,14 +52,14 @@ const SCALE: u8 = 1;
 // The literals' list: 2 and 5.
 const ELEMENTS: [u8; 16] = [2, 0, 0, 0, 0, 0, 0, 0, 5, 0, 0, 0, 0, 0, 0, 0];
 
-// The values by their numbers, a row for each kind, as a value is made of the attribute's kind; the decimals' scale is 3.
+// The values by their numbers, a row for each kind: no table of values, since the attribute's kind makes one. The decimals' scale is 3.
 const INTEGERS: [i64; 5] = [0, 4, 5, 6, 7];
 
 const DECIMALS: [i64; 5] = [0, 8450, 8500, 8550, 8600];
 
 const WORDS: [i64; 5] = [0, 5, 6, 7, 8];
 
-// The lists that the predicates are tried with, each beside the value of its number.
+// The lists that the predicates are tried with, each beside the value of its number, as `evaluate` takes a list beside the value.
 const LISTS: [&[i64]; 5] = [&[], &[], &[2, 5], &[5, 9], &[3]];
 
 // Which tags the rule sheet allows for a kind. A tag stays a number: `suits` and `literal_of` of predicates take it so.
@@ -94,7 +95,8 @@ fn value(attribute: AttributeKind, i: usize) -> AttributeValue
     }
 }
 
-// What a predicate says of a value, or of a list.
+// What a predicate says of a value, or of a list. Kind and tag stay two here and below: a struct would be made of the variables of two
+// loops only to be taken apart where each is printed.
 fn says(
     rt: &impl Print,
     kind: PredicateKind,
@@ -117,10 +119,10 @@ fn cell(rt: &impl Print, kind: PredicateKind, tag: u8, attribute: AttributeKind)
     requires { tag < 6 }
 {
     if !allows(kind, tag) {
-        return print!(rt; " 1");
+        return print!(rt; " {}", Refusal::SheetMalformed.number());
     }
     if !predicates::suits(kind, tag, u8::from(attribute)) {
-        return print!(rt; " 6");
+        return print!(rt; " {}", Refusal::NotSuited.number());
     }
     print!(rt; " ")?;
     for (i, list) in LISTS.iter().enumerate() {
@@ -139,10 +141,11 @@ fn row(rt: &impl Print, kind: PredicateKind, tag: u8) -> io::Result<()>
     println!(rt)
 }
 
+// Each kind by its number, so that `number` and `kind_of` are tried too.
 pub fn run(rt: &impl Print) -> io::Result<()> {
     for kind in KINDS {
         for tag in 0..6 {
-            row(rt, kind, tag)?;
+            row(rt, predicates::kind_of(kind.number()), tag)?;
         }
     }
     Ok(())

@@ -1,7 +1,7 @@
 -- `attributes::is_sound` meets its contract: each way out is a case of the test. Assumes nothing.
-use Rattle.std.proofs.Common.{◌≡◌, true, false, refl, sym, ◌∙◌, true≢false, arith, rules}
+use Rattle.std.proofs.Common.{sym, ◌∙◌, true≢false, arith, rules}
 use borrow.Author.Tests.{tests, ne_eqb}
-use Rattle.std.proofs.lemmas.Iterator.{cases_from_all, YieldsList-from_range}
+use Rattle.lists.proofs.AllLaws.{range_all}
 use Rattle.attributes.specs.Sound.{sound_attribute}
 use Rattle.attributes.proofs.SoundTold.{size_broken, count_broken, all_told}
 use Rattle.attributes.proofs.is_sound.Goals as goal
@@ -11,8 +11,7 @@ pub returns-then-len-le-ATTRIBUTE_LIMIT : goal.returns-then-len-le-ATTRIBUTE_LIM
 returns-then-len-le-ATTRIBUTE_LIMIT c =
     let t = c.args.table.now in
     let n = c.len-then-len-le-ATTRIBUTE_LIMIT in
-    let h = cases_from_all _ _ _ (λ i. sound_attribute t i ≡ true) (λ i. sound_attribute t i ≡ false) c.all.ensures.ran
-    (YieldsList-from_range 0 n.result n.result refl (omega arith)) (λ x q k. search (rules, tests)) (λ x q k. search (rules, tests)) in
+    let h = range_all _ (sound_attribute t) n.result _ c.all.ensures.ran (λ x b q k. search (rules, tests)) in
     elim c.if-table-eq-TABLE_SIZE.branch [
       | then-table-eq-TABLE_SIZE w ↦ all_told t n.result n.ensures (omega arith) (search (rules, tests)) c.all.result h
       | else-table-eq-TABLE_SIZE w ↦

@@ -1,7 +1,7 @@
 -- `events::suits_lent` meets its contract: each way out is a case of the test. Assumes nothing.
-use Rattle.std.proofs.Common.{◌≡◌, true, false, refl, ◌∙◌, arith, rules}
+use Rattle.std.proofs.Common.{◌∙◌, rules}
 use borrow.Author.Tests.{tests}
-use Rattle.std.proofs.lemmas.Iterator.{cases_from_all, YieldsList-from_range}
+use Rattle.lists.proofs.AllLaws.{range_all}
 use Rattle.events.specs.declared.Event.{Event}
 use Rattle.events.specs.Events.{event_of}
 use Rattle.events.specs.Suits.{suits_at}
@@ -14,8 +14,7 @@ returns-then-count-len c =
     let t = a.table.bytes.now in
     let e : Event = event_of a.count a.kinds.now a.numbers.now a.scales.now a.lengths.now a.lists.now in
     suits_told t e (c.if-count-len.true ∙ c.len.ensures.count) c.all.result
-    (cases_from_all _ _ _ (λ i. suits_at t e i ≡ true) (λ i. suits_at t e i ≡ false) c.all.ensures.ran
-    (YieldsList-from_range 0 a.count a.count refl (omega arith)) (λ x q k. search (rules, tests)) (λ x q k. search (rules, tests)))
+    (range_all _ (suits_at t e) a.count _ c.all.ensures.ran (λ x b q k. search (rules, tests)))
 
 pub returns-else-count-len : goal.returns-else-count-len
 returns-else-count-len c = let a = c.args in
