@@ -190,7 +190,7 @@ module _ (b news : List ℕ) where
       (rule_table.reach (renumber_roots b news n) n (rerooted (rule_at b n) (get_or news (rule_at b n).root 0)))
 
   -- the next rule has not been written over
-  rule_unread : (n : ℕ) {d : List ℕ} {r : Rule} → d ≡ renumber_roots b news n → r ≡ rule_at d n → r ≡ rule_at b n
+  pub rule_unread : (n : ℕ) {d : List ℕ} {r : Rule} → d ≡ renumber_roots b news n → r ≡ rule_at d n → r ≡ rule_at b n
   rule_unread n ed er = er ∙ ap (λ (x : List ℕ). rule_at x n) ed ∙ rule_table.apart (renumbered_only n) n (inr (omega arith))
 
   pub root_below : {n i : ℕ} {d : List ℕ} {r : Rule} → RootsBelow b n → d ≡ renumber_roots b news i → r ≡ rule_at d i
@@ -249,7 +249,7 @@ module _ (b news : List ℕ) where
 
 -- the place that a search by halving left is the id's
 pub parted_place : {says : ℕ → Ordering → Type 0} (b : List ℕ) (id p : ℕ) → AscendingIds b
-    → ((k : ℕ) → says k Less → (rule_at b k).id < id) → ((k : ℕ) → says k Greater → id < (rule_at b k).id)
+    → ((k : ℕ) → says k Less → (rule_at b k).id < id) → ((k : ℕ) → says k Greater → id ≤ (rule_at b k).id)
     → Parted says (rule_count b) p → RulePlace b id p
 parted_place b id p up under over parted =
     record {
@@ -262,7 +262,7 @@ parted_place b id p up under over parted =
             | no ne ↦ omega (arith, below, up i (p - 1) (omega (arith, ne)) (omega (arith, parted.bound)))
           ];
       after = λ i u l.
-          let above : id < (rule_at b p).id = over p (parted.greater (omega arith)) in
+          let above : id ≤ (rule_at b p).id = over p (parted.greater (omega arith)) in
           elim (ℕ_discrete p i) [
             | yes e ↦ omega (arith, rw e at above)
             | no ne ↦ omega (arith, above, up p i (omega (arith, ne)) l)

@@ -9,6 +9,7 @@ ghost use Rattle.store.specs.Records.{rule_count};
 ghost use Rattle.changes.specs.Changes.{put_all_children, part_more, insert_rule, remove_rule, renumber_roots, insert_entry};
 ghost use Rattle.changes.specs.Effects.{Room, Placed, ElementsPut, JoinPut, PredicatePut, AscendingIds, RulePlace, RootsBelow};
 
+use std::cmp::Ordering;
 use store::{Count, Limits, Record, Rule};
 
 // The children put as child places from `at` on.
@@ -88,7 +89,14 @@ pub fn rule_place(bytes: &[u8], limits: Limits, id: u32) -> usize
     requires { Laid limits bytes.now × (rule_count bytes.now ≤ limits.rules) × AscendingIds bytes.now }
     ensures { RulePlace bytes.now id result }
 {
-    let compare = |k: usize| store::get_rule(bytes, limits, k).id.cmp(&id);
+    // Less or greater, and nothing for equal: each step is one test, and the search ends at the first rule whose id is not below.
+    let compare = |k: usize| {
+        if store::get_rule(bytes, limits, k).id < id {
+            Ordering::Less
+        } else {
+            Ordering::Greater
+        }
+    };
     let (Ok(place) | Err(place)) = lists::search(store::get_count(bytes, Count::Rules), compare);
     place
 }

@@ -1,6 +1,6 @@
 pub mod SuitsLaws
 pub mod EventsLaws
 pub mod SuitedLaws
-mod PartLaws
+pub mod PartLaws
 mod RangeLaws
-mod WordsLaws
+pub mod WordsLaws

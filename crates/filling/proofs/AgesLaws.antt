@@ -1,15 +1,21 @@
--- Laws of dated readings: a stamp that is past is judged by one difference, and without tolerance a reading is fresh exactly where its
--- stamp is no later than the present and it is not too old. Assumes nothing.
-use Rattle.std.specs.Prelude.{◌≡◌, refl, false, ◌↔◌, ℕ, ◌-◌, ◌≤◌}
+-- Laws of dated readings: a stamp that is ahead and one that is past are each judged by one difference, and without tolerance a reading is
+-- fresh exactly where its stamp is no later than the present and it is not too old. Assumes nothing.
+use Rattle.std.specs.Prelude.{◌≡◌, refl, false, ◌↔◌, ℕ, ◌-◌, ◌≤◌, ◌<◌}
 use Rattle.std.proofs.Common.{◌∙◌, arith}
 use Rattle.std.proofs.Math.Bool.{true}
 use borrow.Author.Tests.{leb-true, le-leb}
 use Rattle.std.proofs.Math.Dec.{leb}
 use Rattle.lists.specs.And.{◌and◌}
-use Rattle.lists.specs.AndLaws.{and_left, and_right, and_skip}
+use Rattle.lists.specs.AndLaws.{and_true, and_left, and_right, and_skip}
 use Rattle.filling.specs.Ages.{is_fresh}
 
 module _ (tolerance stamp present greatestAge : ℕ) where
+  pub fresh_ahead : present < stamp → is_fresh tolerance stamp present greatestAge ≡ leb (stamp - present) tolerance
+  unfolding is_fresh
+  fresh_ahead h =
+      let young : leb (present - stamp) greatestAge ≡ true = le-leb (present - stamp) greatestAge (omega arith) in
+      rw young (and_true (leb (stamp - present) tolerance))
+
   pub fresh_past : stamp ≤ present → is_fresh tolerance stamp present greatestAge ≡ leb (present - stamp) greatestAge
   unfolding is_fresh
   fresh_past h = and_skip _ _ (le-leb (stamp - present) tolerance (omega arith))

@@ -30,7 +30,7 @@ use Rattle.filling.specs.Readings.{reading_number, of_kind, within_limits, value
 use Rattle.filling.specs.Setting.{with_reading}
 use Rattle.filling.proofs.SettingLaws.{set_count, set_shaped, value_set, list_set, value_kept, list_kept, set_suits}
 use Rattle.filling.specs.Filling.{refuse, place_of, refusal_of, is_done, answer_number, outcome, filled_when}
-use Rattle.filling.proofs.FillingLaws.{Accepted, named_within, answer_back, done, accepted}
+use Rattle.filling.proofs.FillingLaws.{Accepted, named_within, answer_back, checks, done, accepted}
 
 -- f is e with the reading set for the attribute of that name
 pub record Taken (t : List ℕ) (e : Event) (name : List ℕ) (reading : Reading) (list : List ℤ) (f : Event) : Type 0 where
@@ -43,16 +43,6 @@ pub record Taken (t : List ℕ) (e : Event) (name : List ℕ) (reading : Reading
   pub count : f.count ≡ e.count
   pub shaped : Shaped f
   pub suits : Suits t f
-
--- the four checks refuse, but never for a reading's age
-checks : (suited known kind limits : Bool)
-    → then (refuse suited (Refused EventUnsuited)) (then (refuse known (Refused NoAttribute))
-    (then (refuse kind (Refused OtherKind)) (refuse limits (Refused LimitPassed)))) ≡ NotSet → ⊥
-checks true true true true h = cc
-checks true true true false h = cc
-checks true true false limits h = cc
-checks true false kind limits h = cc
-checks false known kind limits h = cc
 
 module _ (t : List ℕ) (e : Event) (name : List ℕ) (reading : Reading) (list : List ℤ) where
   -- ---- filling by cases: no refusal, or one

@@ -1,4 +1,4 @@
-mod RowLaws
+pub mod RowLaws
 pub mod AgesLaws
 pub mod FilledLaws
 pub mod FillingLaws

@@ -40,6 +40,16 @@ refusal_of suited t name reading list =
 abbrev pub is_done : Answer → Bool
 is_done answer = eqb (number answer) (number Done)
 
+-- what an answer says of a place: it is given, unless the answer refuses
+abbrev pub placed : Answer → ℕ → Result ℕ Refusal
+placed Done i = Ok i
+placed (Refused r) i = Err r
+placed NotSet i = Ok i
+
+-- where the reading goes, or why it does not
+unfoldable pub place_for : Bool → List ℕ → List ℕ → Reading → List ℤ → Result ℕ Refusal
+place_for suited t name reading list = placed (refusal_of suited t name reading list) (place_of (by_name t name))
+
 -- ---- the answer and the event
 
 -- what filling gives for an answer

@@ -11,7 +11,7 @@ ghost use Rattle.events.specs.Values.{kind_number_or};
 ghost use Rattle.events.specs.Suits.{suits_of};
 ghost use Rattle.filling.specs.Readings.{reading_number, of_kind, list_within, within_limits};
 ghost use Rattle.filling.specs.Setting.{with_kind, with_scalar, with_list, with_reading};
-ghost use Rattle.filling.specs.Filling.{place_of, refusal_of, answer_number, handed_back, filled_when, filled_of};
+ghost use Rattle.filling.specs.Filling.{place_of, refusal_of, place_for, answer_number, handed_back, filled_when, filled_of};
 ghost use Rattle.filling.specs.Ages.{is_fresh, dated_of};
 
 use attributes::{AttributeKind, AttributeTable};
@@ -162,7 +162,7 @@ fn of_kind(reading: Reading, own: u8) -> bool
 }
 
 // Where the reading goes, or the first refusal.
-#[tactic(auto, unfolding(crate::specs::Filling::refusal_of))]
+#[tactic(auto, unfolding(crate::specs::Filling::place_for, crate::specs::Filling::refusal_of))]
 fn place_for(
     table: AttributeTable,
     event: &Event,
@@ -170,6 +170,8 @@ fn place_for(
     reading: Reading,
     list: &[i64],
 ) -> Result<usize, Refusal>
+    ensures whole { result ≡ place_for (suits_of table.entry.bytes.now event.now)
+        table.entry.bytes.now name.now reading list.now }
     ensures answer { answered result ≡ refusal_of (suits_of table.entry.bytes.now event.now)
         table.entry.bytes.now name.now reading list.now }
     ensures place { IfOk result (λ i. i ≡ place_of (by_name table.entry.bytes.now name.now)) }

@@ -1,7 +1,7 @@
 -- WHAT A PART HOLDS, AS A KEY: the first four bytes of its record as one number, its number, how many items it has, then the items. The
 -- items of an And or an Or are its children's numbers, those of a predicate its list's elements, each as its two's complement.
 -- Assumes nothing.
-use Rattle.std.specs.Prelude.{Bool, true, false, List, [], ◌∷◌, ◌++◌, map, ℕ, ◌+◌, ◌*◌, ◌≤◌, ◌<◌, ℤ, length}
+use Rattle.std.specs.Prelude.{◌≡◌, Bool, true, false, List, [], ◌∷◌, ◌++◌, map, ℕ, ◌+◌, ◌*◌, ◌≤◌, ◌<◌, ℤ, length, get_or}
 use Rattle.std.specs.Int.{w64}
 use Rattle.std.proofs.Common.{of_z}
 use Rattle.lists.specs.Tabulate.{tabulate}
@@ -52,6 +52,11 @@ part_order limits b p key = key_order (key_at limits b p) key
 -- and how with a head and the items after it
 abbrev pub head_order : Limits → List ℕ → ℕ → Head → List ℕ → Ordering
 head_order limits b p head items = part_order limits b p (head_key head ++ items)
+
+-- the calls at 0 and on give the items, n of them; says k r is that the call at k may give r
+pub record Gives (says : ℕ → ℕ → Type 0) (n : ℕ) (items : List ℕ) : Type 0 where
+  pub long : length items ≡ n
+  pub each : (k r : ℕ) → k < n → says k r → r ≡ get_or items k 0
 
 -- n items from start on lie within the limits
 pub record Run (join : Bool) (limits : Limits) (b : List ℕ) (start n : ℕ) : Type 0 where

@@ -4,16 +4,15 @@
 // `store` gives.
 #![tactic(auto)]
 
-ghost use Rattle.std.specs.Prelude.{◌≡◌, refl, ◌<◌, List, map, ℕ, length, ltb};
+ghost use Rattle.std.specs.Prelude.{◌≡◌, refl, ◌<◌, List, map, ℕ, length, get_or, ltb};
 ghost use Rattle.std.specs.Int.{w64};
 ghost use Rattle.std.proofs.Common.{of_z, sym};
 ghost use Rattle.std.proofs.lemmas.List.{map-id};
-ghost use Rattle.std.specs.Iterator.{AlwaysYields, IsFinite};
 ghost use Rattle.store.specs.Layout.{Laid};
 ghost use Rattle.store.specs.Records.{part_count};
 ghost use Rattle.finding.specs.KeyOrder.{key_order};
 ghost use Rattle.finding.specs.Keys.{first_of, head_key, item_at, item_limit, key_at, part_order, head_order, Inside};
-ghost use Rattle.finding.specs.Keys.{candidate_head, words_of, key_of};
+ghost use Rattle.finding.specs.Keys.{candidate_head, words_of, key_of, Gives};
 ghost use Rattle.finding.specs.Ascent.{rises_b, ascends_b, PartsInside, Neighbours};
 ghost use Rattle.finding.specs.Finding.{FoundRight, Ordered};
 
@@ -70,26 +69,33 @@ fn get_item(bytes: &[u8], limits: Limits, head: Head, k: usize) -> u64
 
 // ---- parts
 
-// How part p compares with a head and the items after it: the heads decide, or leave it to the items.
-fn compare_part<I: Iterator<Item = u64>>(
+// How part p compares with a head and the items after it, which `item` gives place by place: the heads decide, or leave it to the items.
+// Heads that are the same tell of as many items, so one loop goes over both, and two items that are the same cost it one test.
+// By hand: `Iterator::cmp` makes an order of each two items first, tests that, and looks on either side for an end.
+fn compare_part<F: Fn(usize) -> u64>(
     bytes: &[u8],
     limits: Limits,
     p: usize,
     head: Head,
-    items: I,
+    item: F,
 ) -> Ordering
     requires inside { Inside limits bytes.now p }
-    requires can { I.can_next items }
-    requires finite { IsFinite (I.remaining items) }
-    ensures { (others : List ℕ) → AlwaysYields I.next_gives (λ x. x) items others → result ≡ head_order limits bytes.now p head others }
+    requires can { (k : ℕ) → k < head.length → F.pre item k }
+    ensures { (others : List ℕ) → Gives (F.post item) head.length others → result ≡ head_order limits bytes.now p head others }
 {
     let own = store::get_head(bytes, limits, p);
-    match compare_heads(own, head) {
-        Ordering::Equal => (own.start..own.start + own.length)
-            .map(|k| get_item(bytes, limits, own, k))
-            .cmp(items),
-        order => order,
+    let order = compare_heads(own, head);
+    if order.is_ne() {
+        return order;
     }
+    for k in 0..own.length {
+        let x = get_item(bytes, limits, own, own.start + k);
+        let y = item(k);
+        if x != y {
+            return x.cmp(&y);
+        }
+    }
+    Ordering::Equal
 }
 
 // How part p compares with part q.
@@ -98,8 +104,8 @@ pub fn compare_parts(bytes: &[u8], limits: Limits, p: usize, q: usize) -> Orderi
     ensures { result ≡ part_order limits bytes.now p (key_at limits bytes.now q) }
 {
     let head = store::get_head(bytes, limits, q);
-    let items = (head.start..head.start + head.length).map(|k| get_item(bytes, limits, head, k));
-    compare_part(bytes, limits, p, head, items)
+    let item = |k| get_item(bytes, limits, head, head.start + k);
+    compare_part(bytes, limits, p, head, item)
 }
 
 // An item of a candidate: a predicate's element, as its two's complement, or the number of an operator's child.
@@ -152,7 +158,11 @@ pub fn compare_candidate<T: Item>(
     ensures { result ≡ part_order limits bytes.now p (key_of content (T.words items.now)) }
 {
     let head = candidate_head(content, items.len());
-    compare_part(bytes, limits, p, head, items.iter().map(|item| item.word()))
+    let word = |k: usize| -> u64
+        requires { k < length items.now }
+        ensures { result ≡ get_or (map T.word items.entry.now) k 0 }
+    { items[k].word() };
+    compare_part(bytes, limits, p, head, word)
 }
 
 // ---- the order table

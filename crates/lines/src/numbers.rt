@@ -14,13 +14,22 @@ const MOST_BELOW_ZERO: u64 = MOST + 1;
 
 // Digits worth `value`, and one digit more: nothing, if the byte is no digit or the worth would pass the limit.
 // By hand, since `parse` takes a plus sign, and a u64's takes no -0: `number_of` and `unsigned_of` refuse the one and read the other.
+// Compared before anything is summed up, and no checked sums: a loop over the digits works out the limit's tenth part once.
 #[tactic(auto, using(crate::proofs::WordTests::word_tests), unfolding(crate::specs::Numbers::step_of, crate::specs::Numbers::is_digit))]
 fn with_digit(value: u64, byte: u8, most: u64) -> Option<u64>
     ensures { result ≡ step_of most value byte }
 {
-    let digit = char::from(byte).to_digit(10)?;
-    let worth = value.checked_mul(10)?.checked_add(u64::from(digit))?;
-    (worth <= most).then_some(worth)
+    if byte < b'0' || b'9' < byte || most / 10 < value {
+        None
+    } else {
+        let tens = value * 10;
+        let digit = u64::from(byte - b'0');
+        if digit <= most - tens {
+            Some(tens + digit)
+        } else {
+            None
+        }
+    }
 }
 
 // Digits alone, worth the limit at the most.

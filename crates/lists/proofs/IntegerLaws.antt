@@ -59,7 +59,7 @@ else_below a b h n = go (lt_z a b) refl
     go true e = refl
     go false e = sym n ∙ neither_below a b e h
 
--- what each answer of a comparison says
+-- what each answer of a comparison says, and the tests that settle it
 
 pub cmp_less : (a b : ℤ) → Less ≡ int_cmp a b → lt_z a b ≡ true
 cmp_less a b h = grind (arith, ints)
@@ -70,6 +70,15 @@ cmp_greater a b h = grind (arith, ints)
 pub cmp_equal : (a b : ℤ) → Equal ≡ int_cmp a b → eq_z a b ≡ true
 cmp_equal a b h = same_eq_z a b (grind (arith, ints))
 
+pub less_cmp : (a b : ℤ) → lt_z a b ≡ true → Less ≡ int_cmp a b
+less_cmp a b h = grind (arith, ints)
+
+pub greater_cmp : (a b : ℤ) → lt_z b a ≡ true → Greater ≡ int_cmp a b
+greater_cmp a b h = grind (arith, ints)
+
+pub equal_cmp : (a b : ℤ) → lt_z a b ≡ false → lt_z b a ≡ false → Equal ≡ int_cmp a b
+equal_cmp a b h k = grind (arith, ints)
+
 -- an element that a call handed back is told as the number that its bits stand for
 pub element_told : {x y : ℤ} → mag x < 2 ^ 63 → x ≡ y → to_z w64 (of_z w64 x) ≡ y
 element_told {x} f e = to_z-of_z w64 x (record { sfits = f }) ∙ e
@@ -78,3 +87,26 @@ element_told {x} f e = to_z-of_z w64 x (record { sfits = f }) ∙ e
 pub compared : {a b : ℤ} {o : Ordering} (x y : ℤ) → mag a < 2 ^ 63 → mag b < 2 ^ 63 → a ≡ x → b ≡ y
     → o ≡ int_cmp (to_z w64 (of_z w64 a)) (to_z w64 (of_z w64 b)) → o ≡ int_cmp x y
 compared x y f g d e h = rw (element_told f d, element_told g e) at h
+
+-- and by tests of which is below the other
+module _ {a b : ℤ} (x y : ℤ) (f : mag a < 2 ^ 63) (g : mag b < 2 ^ 63) (d : a ≡ x) (e : b ≡ y) where
+  pub told_less : lt_z (to_z w64 (of_z w64 a)) (to_z w64 (of_z w64 b)) ≡ true → Less ≡ int_cmp x y
+  told_less h = less_cmp x y (rw (element_told f d, element_told g e) at h)
+
+  pub told_greater : lt_z (to_z w64 (of_z w64 b)) (to_z w64 (of_z w64 a)) ≡ true → Greater ≡ int_cmp x y
+  told_greater h = greater_cmp x y (rw (element_told f d, element_told g e) at h)
+
+  pub told_equal : lt_z (to_z w64 (of_z w64 a)) (to_z w64 (of_z w64 b)) ≡ false
+      → lt_z (to_z w64 (of_z w64 b)) (to_z w64 (of_z w64 a)) ≡ false → Equal ≡ int_cmp x y
+  told_equal h k = equal_cmp x y (rw (element_told f d, element_told g e) at h) (rw (element_told f d, element_told g e) at k)
+
+  pub told_same : of_z w64 a ≡ of_z w64 b → Equal ≡ int_cmp x y
+  told_same h =
+      let same : x ≡ y = sym (element_told f d) ∙ ap (to_z w64) h ∙ element_told g e in
+      equal_cmp x y (grind (arith, ints)) (grind (arith, ints))
+
+  pub told_else : lt_z (to_z w64 (of_z w64 a)) (to_z w64 (of_z w64 b)) ≡ false → ¬ (of_z w64 a ≡ of_z w64 b) → Greater ≡ int_cmp x y
+  told_else h n =
+      let above : lt_z x y ≡ false = rw (element_told f d, element_told g e) at h in
+      let apart : ¬ (x ≡ y) = λ same. n (ap (of_z w64) (d ∙ same ∙ sym e)) in
+      greater_cmp x y (grind (arith, ints))

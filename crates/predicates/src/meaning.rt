@@ -85,8 +85,8 @@ impl SetOperator {
         ensures { result ≡ set_holds self value (integers_of elements.now) }
     {
         match self {
-            SetOperator::In => lists::member(Stored(elements), value),
-            SetOperator::NotIn => !lists::member(Stored(elements), value),
+            SetOperator::In => lists::within(Stored(elements), value),
+            SetOperator::NotIn => !lists::within(Stored(elements), value),
         }
     }
 }
@@ -121,10 +121,10 @@ impl ListOperator {
         ensures { result ≡ list_holds self list.now (integers_of elements.now) }
     {
         match self {
-            ListOperator::OneOf => lists::one_of(list, Stored(elements)),
-            ListOperator::NoneOf => !lists::one_of(list, Stored(elements)),
-            ListOperator::AllOf => lists::all_of(list, Stored(elements)),
-            ListOperator::NotAllOf => !lists::all_of(list, Stored(elements)),
+            ListOperator::OneOf => lists::shares(list, Stored(elements)),
+            ListOperator::NoneOf => !lists::shares(list, Stored(elements)),
+            ListOperator::AllOf => lists::inside(list, Stored(elements)),
+            ListOperator::NotAllOf => !lists::inside(list, Stored(elements)),
         }
     }
 }

@@ -1,11 +1,11 @@
 -- Laws of the test of one list, `list_fits`: its value by the tag, the start and the end, and what it tells where it holds.
 -- Assumes nothing.
-use Rattle.std.proofs.Common.{inl, inr, sym, ◌∙◌, arith, eqb-true, leb-true, eq-eqb, le-leb}
-use Rattle.std.proofs.lemmas.Bool.{cases_Bool}
-use Rattle.std.specs.Prelude.{◌≡◌, Bool, true, false, List, ℕ, ◌+◌, ◌≤◌, eqb, leb, length, take, drop, ℤ}
+use Rattle.std.proofs.Common.{inl, inr, sym, ◌∙◌, arith, eqb-true, leb-true, eq-eqb, ne_eqb, le-leb}
+use Rattle.std.proofs.lemmas.Bool.{cases_Bool, lt-leb}
+use Rattle.std.specs.Prelude.{◌≡◌, Bool, true, false, List, ℕ, ◌+◌, ◌≤◌, ◌<◌, eqb, leb, length, take, drop, ℤ}
 use Rattle.lists.specs.And.{◌and◌}
 use Rattle.lists.specs.BelowLaws.{below_none, below_more}
-use Rattle.lists.specs.AndLaws.{and_left, and_right, and_skip, and_both}
+use Rattle.lists.specs.AndLaws.{and_left, and_right, and_first, and_second, and_skip, and_both}
 use Rattle.sheets.specs.Table.{has_list}
 use Rattle.sheets.specs.Bodies.{tag_of, list_length_at, start_at, bodies_at, elements_fit}
 use Rattle.sheets.specs.Form.{list_fits, list_fits_at}
@@ -30,6 +30,12 @@ module _ (s : List ℤ) (base start tag x size : ℕ) where
     fits_is : list_fits s base start tag x size ≡ starts and ends and holds
     unfolding list_fits
     fits_is = rw h
+
+    pub fits_elsewhere : ¬ (x ≡ start) → list_fits s base start tag x size ≡ false
+    fits_elsewhere n = fits_is ∙ and_first (starts and ends) holds (and_first starts ends (ne_eqb x start n))
+
+    pub fits_past : length s < base + start + size → list_fits s base start tag x size ≡ false
+    fits_past l = fits_is ∙ and_first (starts and ends) holds (and_second starts ends (lt-leb _ _ l))
 
     pub fits_listed : x ≡ start → base + start + size ≤ length s → list_fits s base start tag x size ≡ holds
     fits_listed e l = fits_is ∙ and_skip (starts and ends) holds (and_both starts ends (eq-eqb x start e) (le-leb _ _ l))

@@ -13,7 +13,7 @@ use Rattle.std.proofs.Math.Dec.{ltb}
 use Rattle.error.specs.Answers.{Answer, Done, Refused, then}
 use Rattle.error.specs.declared.Refusal.TheVariants.{NoAttribute, NotSuited}
 use Rattle.error.proofs.AnswersLaws.{done?, then_refused, then_both}
-use Rattle.attributes.specs.Table.{kind_at, count_of as attributesIn}
+use Rattle.attributes.specs.Table.{is_between, kind_at, count_of as attributesIn}
 use Rattle.predicates.specs.Kinds.{kind_of as kindNumbered}
 use Rattle.predicates.specs.Suits.{suits_of}
 use Rattle.ast.specs.Trees.{Tree, Join, Not, Value}
@@ -23,9 +23,10 @@ use Rattle.sheets.specs.Spells.{shape_of, Spells}
 use Rattle.sheets.specs.Bodies.{tag_of}
 use Rattle.sheets.specs.Reading.{entry_of, predicate_as, predicate_of}
 use Rattle.sheets.specs.RangeLaws.{Range, range_one, range_more, range_join}
-use Rattle.sheets.specs.SpellsLaws.{spells_size}
+use Rattle.sheets.specs.TableLaws.{between_told}
+use Rattle.sheets.specs.SpellsLaws.{shape_stands, spells_size}
 use Rattle.sheets.specs.Encoding.{Leaves}
-use Rattle.sheets.specs.Suiting.{Suited, suit_answer, entry_answer, entries_answer}
+use Rattle.sheets.specs.Suiting.{Suited, suit_answer, standing, entry_answer, entries_answer}
 
 module _ (table : List ℕ) (first : ℕ) (s : List ℤ) where
   pub entries_none : entries_answer table first s 0 ≡ Done
@@ -101,6 +102,24 @@ module _ (table : List ℕ) (first : ℕ) (s : List ℤ) where
             here = f.here ∙ sym (then_refused (entries_answer table first s n) (entry_answer table first s n) ne);
             before = f.before;
           }
+
+  -- ---- operators and predicates, by the test that tells them apart
+
+  pub entry_operator : (i : ℕ) → is_between 1 (kind_of first s i) 3 ≡ true → entry_answer table first s i ≡ Done
+  unfolding entry_answer shape_of
+  entry_operator i h = let b = between_told 1 (kind_of first s i) 3 h in go (kind_of first s i) b.0 b.1 _
+    where
+      go : (k : ℕ) → 1 ≤ k → k ≤ 3 → (a : Answer) → standing (shape_of k) a ≡ Done
+      go zero l u a = absurd (omega arith)
+      go (suc zero) l u a = refl
+      go (suc (suc zero)) l u a = refl
+      go (suc (suc (suc zero))) l u a = refl
+      go (suc (suc (suc (suc k)))) l u a = absurd (omega arith)
+
+  pub entry_predicate : (i : ℕ) → is_between 1 (kind_of first s i) 3 ≡ false
+      → entry_answer table first s i ≡ suit_answer table (field_of first s i 1) (kind_of first s i) (tag_of first s i)
+  unfolding entry_answer
+  entry_predicate i h = rw (shape_stands (kind_of first s i) h)
 
   -- ---- the tree
 

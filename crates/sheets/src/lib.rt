@@ -47,10 +47,12 @@ pub struct Entry {
 }
 
 // A number of a sheet as a natural number; a negative one becomes a number that fits nowhere, and no None: `natural_of` is a number.
+// By hand, since `try_from` works with the sign's bits too, at each number that is read.
+#[tactic(auto, using(crate::proofs::SheetTests::signed_tests), unfolding(crate::specs::Entries::natural_of))]
 pub fn natural(x: i64) -> usize
     ensures { result ≡ natural_of x }
 {
-    usize::try_from(x).unwrap_or(usize::MAX)
+    if x < 0 { usize::MAX } else { x as usize }
 }
 
 impl Sheet<'_> {

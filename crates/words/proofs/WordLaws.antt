@@ -1,12 +1,12 @@
 -- The laws of `word` and `put`, once over the width: a write keeps the length and every byte elsewhere, what was written is read back, and
 -- a wide number is two narrow ones.
 -- Assumes nothing.
-use mathlib.Core.Path.{◌≡◌, refl, ◌∙◌}
+use mathlib.Core.Path.{◌≡◌, refl, sym, ◌∙◌}
 use mathlib.Core.List.{List}
 use mathlib.Core.Logic.{inl, inr, ⊎_elim}
 use Prim.Native.Nat.{ℕ, zero, suc, ◌+◌, ◌*◌, ◌/◌, ◌%◌, ◌^◌, ◌≤◌, ◌<◌}
 use native.Mathlib.Nat.{zero-add, suc-add, add-suc, add-zero, pow-suc, pow-zero, mod-eq_of_lt, mod-one}
-use native.Mathlib.Nat.{one-mul, mul_assoc, mul_comm}
+use native.Mathlib.Nat.{one-mul, div-one, div-div-eq-div-mul, mul_assoc, mul_comm}
 use native.Mathlib.Omega.{arith}
 use lib.ListN.{length, get_or, set, length-set}
 use lib.Seq.{get_or-set_same, get_or-set_other}
@@ -68,3 +68,26 @@ word_split (suc j) k b at =
     let e : 256 ^ j * 256 * word k b (suc (at + j)) ≡ 256 * (256 ^ j * word k b (suc (at + j)))
     = rw (mul_comm (256 ^ j) 256) (mul_assoc 256 (256 ^ j) (word k b (suc (at + j)))) in
     rw (suc-add j k, word_split j k b (suc at), pow-suc, add-suc at j, suc-add at j) (omega arith)
+
+put_split : (j k : ℕ) (b : List ℕ) (at x : ℕ) → put (j + k) b at x ≡ put k (put j b at x) (at + j) (x / 256 ^ j)
+unfolding put
+put_split zero k b at x = rw (zero-add, pow-zero, div-one, add-zero)
+put_split (suc j) k b at x =
+    rw (suc-add j k, put_split j k (set b at (x % 256)) (suc at) (x / 256), div-div-eq-div-mul, pow-suc, mul_comm (256 ^ j) 256)
+    (rw (add-suc at j, suc-add at j))
+
+-- only the low bytes of what is put matter
+pub put_mod : (k : ℕ) (b : List ℕ) (at x : ℕ) → put k b at (x % 256 ^ k) ≡ put k b at x
+unfolding put
+put_mod zero b at x = refl
+put_mod (suc k) b at x =
+    let e : x % 256 ^ suc k ≡ (x / 256 % 256 ^ k) * 256 + x % 256
+    = rw pow-suc (mod-mul x (power_positive k) (omega arith)) in
+    let low : x % 256 ^ suc k % 256 ≡ x % 256 = rw e (omega arith) in
+    let high : x % 256 ^ suc k / 256 ≡ x / 256 % 256 ^ k = rw e (omega arith) in
+    rw (low, high) (put_mod k (set b at (x % 256)) (suc at) (x / 256))
+
+-- a wide number is written as two narrow ones
+pub put_two : (j k : ℕ) (b : List ℕ) (at x : ℕ)
+    → put k (put j b at (x % 256 ^ j)) (at + j) (x / 256 ^ j) ≡ put (j + k) b at x
+put_two j k b at x = rw put_mod (sym (put_split j k b at x))
