@@ -55,10 +55,22 @@ fn is_word(word: &[u8]) -> bool
 }
 
 // Whether it is a line: words between single spaces, within the limits.
+// By hand, since `split` keeps beside the rest whether it has yielded the last part, and tests that again at each word.
 pub fn is_line(line: &[u8]) -> bool
     ensures { result ≡ is_line line.now }
 {
-    line.len() <= LINE_LIMIT && line.split(|byte| *byte == b' ').all(is_word)
+    if LINE_LIMIT < line.len() {
+        return false;
+    }
+    let mut at = 0;
+    while at <= line.len() {
+        let end = word_end(line, at);
+        if !is_word(&line[at..end]) {
+            return false;
+        }
+        at = end + 1;
+    }
+    true
 }
 
 // Whether the line asks for nothing: it is empty, or begins with #.
