@@ -13,8 +13,7 @@ use Rattle.std.proofs.Math.Logic.{inl, inr}
 use Rattle.std.proofs.Common.{arith}
 use Rattle.std.proofs.lemmas.Bool.{eqb-false}
 use Rattle.lists.specs.Sets.{settled}
-use Rattle.error.specs.Answers.{Answer, Done, Refused, NotSet, number, then}
-use Rattle.error.specs.declared.Refusal.TheVariants.{LimitPassed, NoAttribute, OtherKind, EventUnsuited}
+use Rattle.error.specs.Answers.{Answer, Done, NotSet, number}
 use Rattle.error.proofs.AnswersLaws.{one_number_each}
 use Rattle.attributes.specs.Table.{kind_at, by_name}
 use Rattle.attributes.specs.Sound.{sound_table}

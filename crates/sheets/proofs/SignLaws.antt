@@ -1,4 +1,4 @@
--- A signed number read as a natural one, by the conversion that fails below 0.
+-- A signed number read as a natural one: what the tests on its sign say, and what the conversion that fails below 0 gives.
 use Rattle.std.specs.Prelude.{◌≡◌, refl, ℕ, Result, Ok, Err, ℤ, pos, negsuc, FitsSigned}
 use Rattle.std.proofs.Common.{ap, arith, w64}
 use Rattle.std.specs.Result.{OkIff, result_unwrap_or}
