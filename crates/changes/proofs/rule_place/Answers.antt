@@ -1,4 +1,4 @@
--- `changes::rule_place` meets its contract where the id is not there. Assumes nothing.
+-- `changes::rule_place` meets its contract, whether the id is there or not: the comparison never answers Equal. Assumes nothing.
 use borrow.Author.Rules.{rules}
 use Rattle.changes.proofs.RulesLaws.{parted_place}
 use Rattle.changes.proofs.rule_place.Goals as goal
